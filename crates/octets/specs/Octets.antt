@@ -1,0 +1,12 @@
+-- Runs of octets: a number read, and a run written at an offset (document 01: "Numbers are big-endian").
+use mathlib.Core.List.{List, _++_}
+use Prim.Native.Nat.{ℕ, _+_, _*_}
+use lib.ListN.{length, getD, take, drop}
+
+-- the number of 32 bits at the head
+unfoldable pub number : List ℕ → ℕ
+number xs = getD xs 0 0 * 16777216 + getD xs 1 0 * 65536 + getD xs 2 0 * 256 + getD xs 3 0
+
+-- the octets vs from `at` on; all other octets of d stay
+unfoldable pub put : List ℕ → ℕ → List ℕ → List ℕ
+put d at vs = take at d ++ vs ++ drop (at + length vs) d

@@ -1,0 +1,96 @@
+-- Reading the message at the head of what remains of a frame (document 01, "Octets of a frame").
+use mathlib.Core.Bool.{Bool, true, false, cond, not}
+use mathlib.Core.List.{List, [], _∷_}
+use Prim.Native.Nat.{ℕ, zero, suc, _+_, _*_, _/_, _%_}
+use lib.ListN.{length, getD, take, drop}
+use lib.Dec.{ltb, leb, eqb}
+use Rattle.octets.specs.Octets.{number}
+use Rattle.wire.specs.declared.Kind.{Kind}
+use Rattle.wire.specs.declared.Kind.the-variants.{Skipped, Bundle, Segment, End, Cancel}
+use Rattle.wire.specs.declared.Fault.the-variants.{ShortHeader, ReservedFlag, PastFrame, PastMessage, BadContent}
+use Rattle.wire.specs.declared.Hints.{Hints}
+use Rattle.wire.specs.declared.Hints.the-variants.{Left, Overrun}
+use Rattle.wire.specs.Message.{Message, skipped, bundle, segment, last, cancel, Read, bad, good}
+
+-- Indefinite padding: how many zero octets stand at the head, up to the first other octet or the end.
+unfoldable pub zeros : List ℕ → ℕ
+zeros [] = 0
+zeros (zero ∷ xs) = 1 + zeros xs
+zeros (suc x ∷ xs) = 0
+
+-- Types 2 to 5 are read, all others passed over by their length.
+unfoldable pub kindOf : ℕ → Kind
+kindOf type = cond (eqb type 2) Bundle (cond (eqb type 3) Segment (cond (eqb type 4) End (cond (eqb type 5) Cancel Skipped)))
+
+-- the length field, 20 bits, of the header at the head
+unfoldable pub lengthField : List ℕ → ℕ
+lengthField xs = getD xs 1 0 % 16 * 65536 + getD xs 2 0 * 256 + getD xs 3 0
+
+-- What a chain of hints leaves of a message's octets, if it stays within them.
+pub data Chain : Type 0 where
+  overrun : Chain
+  behind : List ℕ → Chain
+
+-- The octets behind the chain at the head; the first argument is at least the number of hints.
+unfoldable pub chain : ℕ → List ℕ → Chain
+chain zero xs = overrun
+chain (suc n) xs =
+    cond (ltb (length xs) 2) overrun
+    (cond (ltb (length xs) (2 + getD xs 1 0)) overrun
+    (cond (eqb (getD xs 0 0 % 2) 0) (behind (drop (2 + getD xs 1 0) xs))
+    (chain n (drop (2 + getD xs 1 0) xs))))
+
+-- the octets behind the hints, if the header's flag H is set
+unfoldable pub hints : Bool → List ℕ → Chain
+hints hinted xs = cond hinted (chain (length xs) xs) (behind xs)
+
+-- as the hint walk answers it
+unfoldable pub left : Chain → Hints
+left overrun = Overrun
+left (behind xs) = Left (length xs)
+
+-- Whether a content has a length that its kind may have.
+unfoldable pub fitting : Kind → ℕ → Bool
+fitting Skipped n = true
+fitting Bundle n = true
+fitting Segment n = leb 8 n
+fitting End n = leb 8 n
+fitting Cancel n = eqb n 4
+
+-- The message of a kind with a fitting content: transfer number, segment index, data.
+unfoldable pub message : Kind → List ℕ → Message
+message Skipped xs = skipped
+message Bundle xs = bundle xs
+message Segment xs = segment (number xs) (number (drop 4 xs)) (drop 8 xs)
+message End xs = last (number xs) (number (drop 4 xs)) (drop 8 xs)
+message Cancel xs = cancel (number xs)
+
+unfoldable pub content : Kind → Chain → ℕ → Read
+content k overrun size = bad PastMessage
+content k (behind xs) size = cond (fitting k (length xs)) (good (message k xs) size) (bad BadContent)
+
+-- In a message that is passed over nothing after the header is looked at.
+unfoldable pub body : Kind → Chain → ℕ → Read
+body Skipped c size = good skipped size
+body Bundle c size = content Bundle c size
+body Segment c size = content Segment c size
+body End c size = content End c size
+body Cancel c size = content Cancel c size
+
+-- a message with its header at the head, from the length that the header says
+unfoldable pub bodied : List ℕ → ℕ → Read
+bodied xs size = body (kindOf (getD xs 0 0)) (hints (leb 128 (getD xs 1 0)) (take size (drop 4 xs))) (4 + size)
+
+-- The message with a header at the head, or the first refusal of 4 to 8 that applies.
+unfoldable pub headed : List ℕ → Read
+headed xs =
+    cond (ltb (length xs) 4) (bad ShortHeader)
+    (cond (not (eqb (getD xs 1 0 / 16 % 8) 0)) (bad ReservedFlag)
+    (cond (ltb (length xs) (4 + lengthField xs)) (bad PastFrame)
+    (bodied xs (lengthField xs))))
+
+-- Nothing starts where no octet is left.
+unfoldable pub read : List ℕ → Read
+read [] = bad ShortHeader
+read (zero ∷ xs) = good skipped (1 + zeros xs)
+read (suc t ∷ xs) = headed (suc t ∷ xs)

@@ -1,0 +1,209 @@
+// The messages of a frame: reading one, and checking a whole frame (document 01, "Octets of a frame").
+ghost use mathlib.Core.Path.{_≡_};
+ghost use Prim.Native.Nat.{_+_, _≤_, _<_};
+ghost use lib.ListN.{length, drop};
+ghost use Rattle.wire.specs.Message.{answer};
+ghost use Rattle.wire.specs.Layout.{zeros, kindOf, lengthField, chain, hints, left, fitting, bodied, read};
+ghost use Rattle.wire.specs.Frame.{checked, readingChecked};
+
+pub enum Kind {
+    Skipped,
+    Bundle,
+    Segment,
+    End,
+    Cancel,
+}
+
+// Refusals 4 to 8 of document 01, in that order.
+pub enum Fault {
+    ShortHeader,
+    ReservedFlag,
+    PastFrame,
+    PastMessage,
+    BadContent,
+}
+
+// A message whose content is frame[start..end]; the next message starts at end.
+pub struct Span {
+    pub kind: Kind,
+    pub start: usize,
+    pub end: usize,
+}
+
+pub enum Reading {
+    Good(Span),
+    Bad(Fault),
+}
+
+// How many octets the hint chain leaves of a message, if it stays within it.
+enum Hints {
+    Left(usize),
+    Overrun,
+}
+
+// Malformed: refusals 4 to 8, with the first bad message's start. Misplaced: refusal 9.
+pub enum Checked {
+    Accepted,
+    Malformed(Fault, usize),
+    Misplaced,
+}
+
+// The end of the run of zero octets at a position.
+fn zeros_end(frame: &[u8], at: usize) -> usize
+    requires { ⌜ at ≤ length (now frame) ⌝ }
+    ensures { λ r. ⌜ r ≡ at + zeros (drop at (now (frame .entry))) ⌝ }
+{
+    let mut end = at;
+    while end < frame.len() {
+        if frame[end] != 0 {
+            return end;
+        }
+        end += 1;
+    }
+    end
+}
+
+// Types 0, 1 and 6 to 255 are passed over.
+fn kind_of(code: u8) -> Kind
+    ensures { λ r. ⌜ r ≡ kindOf code ⌝ }
+{
+    match code {
+        2 => Kind::Bundle,
+        3 => Kind::Segment,
+        4 => Kind::End,
+        5 => Kind::Cancel,
+        _ => Kind::Skipped,
+    }
+}
+
+fn length_field(frame: &[u8], at: usize) -> usize
+    requires { ⌜ at + 4 ≤ length (now frame) ⌝ }
+    ensures { λ r. ⌜ r ≡ lengthField (drop at (now (frame .entry))) ⌝ }
+{
+    octets::octet_size(frame[at + 1] % 16) * 65536
+        + octets::octet_size(frame[at + 2]) * 256
+        + octets::octet_size(frame[at + 3])
+}
+
+// Walks the hint chain at the start of s.
+fn walk_hints(s: &[u8]) -> Hints
+    ensures { λ r. ⌜ r ≡ left (chain (length (now (s .entry))) (now (s .entry))) ⌝ }
+{
+    if s.len() < 2 {
+        return Hints::Overrun;
+    }
+    let value = octets::octet_size(s[1]);
+    if s.len() - 2 < value {
+        return Hints::Overrun;
+    }
+    if s[0] % 2 == 0 {
+        return Hints::Left(s.len() - 2 - value);
+    }
+    let from = 2 + value;
+    walk_hints(&s[from..])
+}
+
+fn after_hints(s: &[u8], hinted: bool) -> Hints
+    ensures { λ r. ⌜ r ≡ left (hints hinted (now (s .entry))) ⌝ }
+{
+    if hinted {
+        return walk_hints(s);
+    }
+    Hints::Left(s.len())
+}
+
+// Whether a content of a length fits its kind.
+fn fits(kind: Kind, left: usize) -> bool
+    ensures { λ r. ⌜ r ≡ fitting kind left ⌝ }
+{
+    match kind {
+        Kind::Segment | Kind::End => 8 <= left,
+        Kind::Cancel => left == 4,
+        _ => true,
+    }
+}
+
+// The message at a position whose header says that size octets follow it, and they do.
+fn read_body(frame: &[u8], at: usize, size: usize) -> Reading
+    requires { ⌜ at + 4 + size ≤ length (now frame) ⌝ }
+    ensures { λ r. ⌜ r ≡ answer at (bodied (drop at (now (frame .entry))) size) ⌝ }
+{
+    let start = at + 4;
+    let end = start + size;
+    let kind = kind_of(frame[at]);
+    if let Kind::Skipped = kind {
+        return Reading::Good(Span {
+            kind,
+            start: end,
+            end,
+        });
+    }
+    let h = after_hints(&frame[start..end], 128 <= frame[at + 1]);
+    let Hints::Left(left) = h else {
+        return Reading::Bad(Fault::PastMessage);
+    };
+    if fits(kind, left) {
+        return Reading::Good(Span {
+            kind,
+            start: end - left,
+            end,
+        });
+    }
+    Reading::Bad(Fault::BadContent)
+}
+
+// The message that starts at a position of the frame.
+pub fn read_message(frame: &[u8], at: usize) -> Reading
+    requires { ⌜ at < length (now frame) ⌝ }
+    ensures { λ r. ⌜ r ≡ answer at (read (drop at (now (frame .entry)))) ⌝ }
+{
+    if frame[at] == 0 {
+        let end = zeros_end(frame, at);
+        return Reading::Good(Span {
+            kind: Kind::Skipped,
+            start: end,
+            end,
+        });
+    }
+    if frame.len() - at < 4 {
+        return Reading::Bad(Fault::ShortHeader);
+    }
+    if frame[at + 1] / 16 % 8 != 0 {
+        return Reading::Bad(Fault::ReservedFlag);
+    }
+    let size = length_field(frame, at);
+    if frame.len() - at - 4 < size {
+        return Reading::Bad(Fault::PastFrame);
+    }
+    read_body(frame, at, size)
+}
+
+// What one reading says of its frame.
+fn reading_checked(r: Reading, at: usize) -> Checked
+    ensures { λ c. ⌜ c ≡ readingChecked r at ⌝ }
+{
+    match r {
+        Reading::Good(_) => Checked::Accepted,
+        Reading::Bad(refusal) => Checked::Malformed(refusal, at),
+    }
+}
+
+// Reads every message of a frame of any length, and sees whether one starts at the place.
+pub fn check_frame(frame: &[u8], place: usize) -> Checked
+    ensures { λ r. ⌜ r ≡ checked read (now (frame .entry)) place ⌝ }
+{
+    let mut at = 0;
+    let mut seen = place == frame.len();
+    while at < frame.len() {
+        seen = seen | (at == place);
+        let r = read_message(frame, at);
+        let Reading::Good(m) = r else {
+            return reading_checked(r, at);
+        };
+        at = m.end;
+    }
+    if seen {
+        return Checked::Accepted;
+    }
+    Checked::Misplaced
+}
