@@ -9,6 +9,12 @@ use Rattle.window.specs.declared.Standing.the-variants.{Inside, New, Out
 abbrev pub windowSize : ℕ
 windowSize = 16
 
+-- the sizes that the laws are stated over
+pub data Window : ℕ → Type 0 where
+  four : Window 4
+  eight : Window 8
+  sixteen : Window 16
+
 -- d: T minus G, modulo 4,294,967,296
 abbrev pub distance : ℕ → ℕ → ℕ
 distance g t = (t + (2 ^ 32 - g)) % 2 ^ 32
@@ -29,6 +35,10 @@ standingOf w present g t = cond present (standing w (distance g t)) (New w)
 abbrev pub rowOf : ℕ → ℕ → ℕ
 rowOf w n = n % w
 
+-- how many numbers after the first behind g the next number of row r stands
+abbrev pub ahead : ℕ → ℕ → ℕ → ℕ
+ahead w g r = (r + (w - 1) + (w - g % w)) % w
+
 -- row r is that of one of the d numbers after g
 unfoldable pub enters : ℕ → ℕ → ℕ → ℕ → Bool
-enters w g d r = ltb ((r + (w - 1) + (w - g % w)) % w) d
+enters w g d r = ltb (ahead w g r) d

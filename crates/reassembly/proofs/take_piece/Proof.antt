@@ -1,0 +1,93 @@
+-- `reassembly::take_piece` meets its contract. By the verdict; an accepted piece has room in the row and in the cell. Assumes nothing.
+use mathlib.Core.Path.{_≡_, refl, sym, _∙_}
+use native.Mathlib.Omega.{arith}
+use lib.ListN.{length}
+use Rattle.reassembly.proofs.Sound.{sound-facts}
+use Rattle.reassembly.proofs.Judging.{Accepted, accepted}
+use Rattle.reassembly.proofs.Kept.{Shaped, Joinable, joinable}
+use Rattle.reassembly.specs.Row.{sumOf, lengthsOf, withPiece, carryOut, pieceStep, deliveryOf, written}
+use borrow.Author.Needs.{needs}
+use Rattle.reassembly.proofs.take_piece.Statement.{statement}
+use Rattle.reassembly.proofs.take_piece.Tie as tie
+
+shaped : (c : tie.Start) → Shaped (c .args .row)
+shaped c = record { indexes64 = search needs; lengths64 = search needs }
+
+taken : (c : tie.After-with-piece-arg) →
+    let a = c .before .before .before .before .before .before .before .before .args in
+    Accepted (a .row) (a .ending) (a .index) (length (a .payload .now)) × (c .before .before .v .given .0 .0 ≡ sumOf (lengthsOf (a .row)))
+taken c = accepted _ _ _ _ _ (sym (c .before .before .before .before .judge .ensures) ∙ c .before .before .v .given .1)
+
+next : (c : tie.After-with-piece-arg) →
+    let a = c .before .before .before .before .before .before .before .before .args in
+    Joinable (withPiece (a .row) (a .ending) (a .index) (length (a .payload .now)))
+next c = let s = c .before .before .before .before .before .before .before .before in joinable _ _ _ _ (sound-facts _ (s .pre .0)) (shaped s) (taken c .0)
+
+judge-requires : tie.Need-judge-requires
+judge-requires c κs = search needs
+
+enum-told : tie.Need-enum-told
+enum-told c = search needs
+
+enum-told-2 : tie.Need-enum-told-2
+enum-told-2 c = search needs
+
+empty-row-requires : tie.Need-empty-row-requires
+empty-row-requires c κs = search needs
+
+enum-known-v : tie.Need-enum-known-v
+enum-known-v c = search needs
+
+cast-with-piece : tie.Need-cast-with-piece
+cast-with-piece c = omega (arith, taken c .0 .low)
+
+with-piece-requires : tie.Need-with-piece-requires
+unfolding withPiece
+with-piece-requires c κs =
+    let a = taken c in
+    (omega (arith, next c .few), omega (arith, a .0 .fits, a .1), c .before .before .before .before .before .before .before .before .pre .1)
+
+settle-requires : tie.Need-settle-requires
+settle-requires c κs =
+    let p = c .before .before .before .before .before .before .before .before .before .before .before .before .before .pre in
+    let w = c .before .before .before .before .with-piece in
+    let j = next (c .before .before .before .before .before) in
+    rw (w .ensures .0) (j .few, j .last, omega (arith, j .fits, w .kept .1 .0, p .1), omega (arith, j .fits, p .2))
+
+returns : tie.Need-returns
+unfolding pieceStep carryOut deliveryOf written
+returns c = rw (← c .before .before .judge .ensures, c .enum-told .given .1) (record { row = refl; delivery = refl; cell = refl; output = refl })
+
+returns-2 : tie.Need-returns-2
+unfolding pieceStep carryOut deliveryOf written
+returns-2 c = rw (← c .before .before .before .judge .ensures, c .before .enum-told2 .given .1) (record { row = c .empty-row .ensures; delivery = refl; cell = refl; output = refl })
+
+same-length : tie.Need-same-length
+same-length c = search needs
+
+same-length-2 : tie.Need-same-length-2
+same-length-2 c = search needs
+
+returns-3 : tie.Need-returns-3
+unfolding pieceStep carryOut
+returns-3 c =
+    let w = c .before .before .before .before .before .before .before in
+    rw (← w .before .before .before .before .before .judge .ensures, w .before .before .before .v .given .1, ← w .with-piece .ensures .0, ← w .with-piece .ensures .1) (c .before .before .settle .ensures)
+
+pub take-piece-spec : {M : Type 1} → statement M
+take-piece-spec =
+    tie.close
+    (tie.spec
+    judge-requires
+    enum-told
+    enum-told-2
+    empty-row-requires
+    enum-known-v
+    cast-with-piece
+    with-piece-requires
+    settle-requires
+    returns
+    returns-2
+    same-length
+    same-length-2
+    returns-3)

@@ -1,0 +1,120 @@
+-- The receiving call: refused calls change nothing, refusals come in document 01's order, and a call that is not refused is the message loop
+-- with a limit of one bundle.
+use mathlib.Core.Bool.{true, false, not, _||_}
+use mathlib.Core.List.{List, [], _∷_}
+use mathlib.Core.Logic.{_⊎_, inl, inr}
+use mathlib.Core.Option.{Option, none, some}
+use mathlib.Core.Path.{_≡_, refl}
+use Prim.Native.Nat.{ℕ, _*_, _≤_, _<_}
+use native.Mathlib.Nat.{zero-add, sub-zero}
+use native.Mathlib.Omega.{arith}
+use lib.Dec.{eqb, ltb}
+use lib.ListN.{length}
+use borrow.Author.Tests.{eqb-true, eqb-false, ltb-false, le-leb, not-false}
+use Rattle.octets.proofs.Flags.{bool, neither}
+use Rattle.wire.specs.Frame.{Item, checked}
+use Rattle.wire.specs.declared.Checked.{Checked}
+use Rattle.wire.specs.declared.Checked.the-variants as Frame
+use Rattle.reassembly.specs.Row.{bundleMax}
+use Rattle.receiver.specs.Message.{Draft, Board, Handed, step}
+use Rattle.receiver.specs.Receive.{frameMax, Reply, frameRefusal, replied, delivered, refusal, treat, messagesFrom, receive}
+use Rattle.receiver.specs.Run.{Run, progressed, advanced, run, answerOf, admission}
+use Rattle.receiver.specs.State.{sound}
+use Rattle.receiver.specs.declared.Admission.the-variants.{Admitted, Denied}
+use Rattle.receiver.specs.declared.Answer.the-variants.{Refused}
+use Rattle.receiver.specs.declared.Origin.{Origin}
+use Rattle.receiver.specs.declared.Refusal.{Refusal}
+use Rattle.receiver.specs.declared.Refusal.the-variants.{Malformed, Misplaced}
+
+clash : {A : Type 0} → true ≡ false → A
+clash e = absurd (let z : _≡_ {A = ℕ} 0 1 = cc in omega arith)
+
+-- ---- admission
+
+pub denied : (o : Option Refusal) (q : Refusal) → admission o ≡ Denied q → o ≡ some q
+unfolding admission
+denied none q e = absurd (let z : _≡_ {A = ℕ} 0 1 = cc in omega arith)
+denied (some r) q e = cc
+
+pub admitted : (o : Option Refusal) → admission o ≡ Admitted → o ≡ none
+unfolding admission
+admitted none e = refl
+admitted (some r) e = absurd (let z : _≡_ {A = ℕ} 0 1 = cc in omega arith)
+
+module _ (D : Draft) (w : ℕ) (b : Board) (frame : List ℕ) (place : ℕ) (output : List ℕ) where
+  -- a call that is refused gives back state, pool and output as they were
+  pub refused : (q : Refusal) → refusal D w b frame place output ≡ some q → receive D w b frame place output ≡ record { answer = Refused q; board = b; output = output }
+  unfolding receive replied
+  refused q e = rw e
+
+  pub treated : refusal D w b frame place output ≡ none → receive D w b frame place output ≡ treat D w b (messagesFrom D frame place) output
+  unfolding receive replied
+  treated e = rw e
+
+  -- what a call that is not refused has
+  pub record Admits : Type 0 where
+    pub state : sound (b .state) ≡ true
+    pub pool : length (b .pool) ≡ w * bundleMax
+    pub room : bundleMax ≤ length output
+    pub some : 0 < length frame
+    pub small : length frame ≤ frameMax
+    pub accepted : checked (D .read) frame place ≡ Frame.Accepted
+
+  accepts : (c : Checked) → frameRefusal c ≡ none → c ≡ Frame.Accepted
+  unfolding frameRefusal
+  accepts Frame.Accepted e = refl
+  accepts (Frame.Malformed f p) e = absurd (let z : _≡_ {A = ℕ} 0 1 = cc in omega arith)
+  accepts Frame.Misplaced e = absurd (let z : _≡_ {A = ℕ} 0 1 = cc in omega arith)
+
+  pub admits : refusal D w b frame place output ≡ none → Admits
+  unfolding refusal
+  admits e = go (bool (not (sound (b .state)))) (bool (not (eqb (length (b .pool)) (w * bundleMax)) || ltb (length output) bundleMax)) (bool (eqb (length frame) 0 || ltb frameMax (length frame)))
+    where
+      never : {q : Refusal} → some q ≡ none → Admits
+      never e = absurd (let z : _≡_ {A = ℕ} 0 1 = cc in omega arith)
+
+      go : (not (sound (b .state)) ≡ true) ⊎ (not (sound (b .state)) ≡ false)
+          → ((not (eqb (length (b .pool)) (w * bundleMax)) || ltb (length output) bundleMax) ≡ true) ⊎ ((not (eqb (length (b .pool)) (w * bundleMax)) || ltb (length output) bundleMax) ≡ false)
+          → ((eqb (length frame) 0 || ltb frameMax (length frame)) ≡ true) ⊎ ((eqb (length frame) 0 || ltb frameMax (length frame)) ≡ false) → Admits
+      go (inl x) y z = never (rw x at e)
+      go (inr x) (inl y) z = never (rw (x, y) at e)
+      go (inr x) (inr y) (inl z) = never (rw (x, y, z) at e)
+      go (inr x) (inr y) (inr z) =
+          let p = neither (not (eqb (length (b .pool)) (w * bundleMax))) (ltb (length output) bundleMax) y in
+          let f = neither (eqb (length frame) 0) (ltb frameMax (length frame)) z in
+          record {
+            state = not-false (sound (b .state)) x;
+            pool = eqb-true (length (b .pool)) (w * bundleMax) (not-false (eqb (length (b .pool)) (w * bundleMax)) (p .0));
+            room = ltb-false (length output) bundleMax (p .1);
+            some = omega (arith, eqb-false (length frame) 0 (f .0));
+            small = ltb-false frameMax (length frame) (f .1);
+            accepted = accepts (checked (D .read) frame place) (rw (x, y, z) at e);
+          }
+
+-- ---- the loop with a limit of one bundle
+
+abbrev pub replyOf : Run → Reply
+replyOf p = record { answer = answerOf (p .progress); board = p .board; output = p .output }
+
+abbrev fresh : Board → List ℕ → ℕ → Origin → Run
+fresh b output next origin = record { board = b; output = output; progress = record { count = 0; used = 0; next = next; origin = origin } }
+
+module _ (D : Draft) (w : ℕ) where
+  -- a bundle is out: the limit is reached
+  full : (p : Run) (is : List Item) → p .progress .count ≡ 1 → run w (D .falling) 1 p is ≡ p
+  unfolding run
+  full p [] e = refl
+  full p (i ∷ is) e = rw e
+
+  one-turn : (b b′ : Board) (x : Option Handed) (at : ℕ) (is : List Item) (output : List ℕ) (next : ℕ) (origin : Origin) → replyOf (run w (D .falling) 1 (fresh b′ output at origin) is) ≡ treat D w b′ is output
+      → replyOf (run w (D .falling) 1 (advanced (fresh b output next origin) b′ at x) is) ≡ delivered x b′ at output (treat D w b′ is output)
+  unfolding advanced progressed delivered answerOf
+  one-turn b b′ none at is output next origin later = later
+  one-turn b b′ (some h) at is output next origin later = rw (full (advanced (fresh b output next origin) b′ at (some h)) is refl, zero-add)
+
+  pub one-bundle : (b : Board) (is : List Item) (output : List ℕ) (next : ℕ) (origin : Origin) → bundleMax ≤ length output → replyOf (run w (D .falling) 1 (fresh b output next origin) is) ≡ treat D w b is output
+  unfolding run treat answerOf
+  one-bundle b [] output next origin h = refl
+  one-bundle b (i ∷ is) output next origin h =
+      let o = step w (D .falling) b (i .message) in
+      rw (sub-zero, le-leb bundleMax (length output) h) (one-turn b (o .board) (o .handed) (i .next) is output next origin (one-bundle (o .board) is output (i .next) origin h))

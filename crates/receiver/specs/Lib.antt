@@ -1,0 +1,4 @@
+pub mod State
+pub mod Message
+pub mod Receive
+pub mod Run

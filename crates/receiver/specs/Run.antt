@@ -1,0 +1,119 @@
+-- The message loop as the code runs it: with a limit on the bundles, which lie one behind another in the output. The laws that
+-- tie it to the receiving call are in proofs/.
+use mathlib.Core.Bool.{Bool, true, false, cond, _&&_}
+use mathlib.Core.Option.{Option, none, some}
+use mathlib.Core.List.{List, [], _∷_}
+use Prim.Native.Nat.{ℕ, _+_, _-_, _*_}
+use lib.ListN.{length, getD, drop, set}
+use lib.Dec.{ltb, leb, eqb}
+use Rattle.octets.specs.Octets.{number, put}
+use Rattle.wire.specs.Message.{Message, skipped, bundle, segment, last, cancel}
+use Rattle.wire.specs.Frame.{Item}
+use Rattle.window.specs.declared.Standing.{Standing}
+use Rattle.window.specs.declared.Standing.the-variants.{Inside, New, Outside}
+use Rattle.window.specs.Window.{standingOf, rowOf}
+use Rattle.reassembly.specs.declared.Row.{Row}
+use Rattle.reassembly.specs.declared.Phase.the-variants.{Free}
+use Rattle.reassembly.specs.declared.Delivery.{Delivery}
+use Rattle.reassembly.specs.declared.Delivery.the-variants.{Nothing, Bundle}
+use Rattle.reassembly.specs.Row as Rules
+use Rattle.reassembly.specs.Row.{bundleMax, emptyRow, silent, pieceStep, cancelStep}
+use Rattle.receiver.specs.declared.Origin.{Origin}
+use Rattle.receiver.specs.declared.Origin.the-variants.{Whole, Transfer}
+use Rattle.receiver.specs.declared.Act.{Act}
+use Rattle.receiver.specs.declared.Act.the-variants.{Pass, HandOut, Piece, Cancel}
+use Rattle.receiver.specs.declared.Answer.{Answer}
+use Rattle.receiver.specs.declared.Answer.the-variants.{Finished, Delivered}
+use Rattle.receiver.specs.declared.Visit.{Visit}
+use Rattle.receiver.specs.declared.Refusal.{Refusal}
+use Rattle.receiver.specs.declared.Admission.{Admission}
+use Rattle.receiver.specs.declared.Admission.the-variants.{Admitted, Denied}
+use Rattle.receiver.specs.declared.Progress.{Progress}
+use Rattle.receiver.specs.declared.Ran.{Ran}
+use Rattle.receiver.specs.Message.{Board, Handed, Outcome, step}
+
+-- ---- where a message goes
+
+-- a message that goes to no row leaves the window, and passes row 0 through
+abbrev pub stay : Bool → ℕ → Act → Visit
+stay present g act = record { act = act; slot = 0; entered = 0; present = present; greatest = g; origin = Whole }
+
+module _ (w : ℕ) where
+  unfoldable pub transferVisit : Standing → Bool → ℕ → Act → ℕ → Visit
+  transferVisit Inside present g act t = record { act = act; slot = rowOf w t; entered = 0; present = present; greatest = g; origin = Transfer t }
+  transferVisit (New d) present g act t = record { act = act; slot = rowOf w t; entered = d; present = true; greatest = t; origin = Transfer t }
+  transferVisit Outside present g act t = stay present g Pass
+
+  unfoldable pub visitOf : Bool → ℕ → Message → Visit
+  visitOf present g skipped = stay present g Pass
+  visitOf present g (bundle c) = stay present g HandOut
+  visitOf present g (segment t i d) = transferVisit (standingOf w present g t) present g (Piece false) t
+  visitOf present g (last t i d) = transferVisit (standingOf w present g t) present g (Piece true) t
+  visitOf present g (cancel t) = transferVisit (standingOf w present g t) present g Cancel t
+
+-- the row that a message finds: an empty one where its number enters
+abbrev pub found : ℕ → Row → Row
+found entered r = cond (ltb 0 entered) (emptyRow Free) r
+
+-- a content of n octets is long enough for what is done with it, and no longer than a bundle
+abbrev pub admits : Act → ℕ → Bool
+admits Pass n = true
+admits HandOut n = leb n bundleMax
+admits (Piece ending) n = leb 8 n
+admits Cancel n = true
+
+-- what a message with a content does to its row
+unfoldable pub rowStep : Bool → Act → List ℕ → Row → List ℕ → Rules.Outcome
+rowStep falling Pass content r cell = silent r cell
+rowStep falling HandOut content r cell = record { row = r; cell = cell; bundle = some content }
+rowStep falling (Piece ending) content r cell = pieceStep falling ending (number (drop 4 content)) (drop 8 content) r cell
+rowStep falling Cancel content r cell = cancelStep r cell
+
+-- ---- the loop
+
+-- how far a run came, with the board and the output as they are then
+pub record Run : Type 0 where
+  pub board : Board
+  pub output : List ℕ
+  pub progress : Progress
+
+abbrev pub begun : Board → List ℕ → ℕ → Run
+begun b output place = record { board = b; output = output; progress = record { count = 0; used = 0; next = place; origin = Whole } }
+
+-- as the code answers it
+abbrev pub ran : Ran → List ℕ → List ℕ → Run
+ran r pool output = record { board = record { state = r .state; pool = pool }; output = output; progress = r .progress }
+
+abbrev pub size : Delivery → ℕ
+size Nothing = 0
+size (Bundle n) = n
+
+-- a message was treated, and the next starts at `next`
+unfoldable pub progressed : Progress → Delivery → ℕ → Origin → Progress
+progressed p Nothing next origin = record { count = p .count; used = p .used; next = next; origin = p .origin }
+progressed p (Bundle n) next origin = record { count = p .count + 1; used = p .used + n; next = next; origin = origin }
+
+unfoldable pub advanced : Run → Board → ℕ → Option Handed → Run
+advanced p b next none = record { board = b; output = p .output; progress = progressed (p .progress) Nothing next Whole }
+advanced p b next (some h) = record { board = b; output = put (p .output) (p .progress .used) (h .octets); progress = progressed (p .progress) (Bundle (length (h .octets))) next (h .origin) }
+
+-- fewer bundles than the limit are out, and there is room for a bundle
+abbrev pub roomy : Progress → ℕ → ℕ → Bool
+roomy p limit size = ltb (p .count) limit && leb bundleMax (size - p .used)
+
+module _ (w : ℕ) (falling : Bool) (limit : ℕ) where
+  unfoldable pub run : Run → List Item → Run
+  run p [] = p
+  run p (i ∷ is) =
+      let o : Outcome = step w falling (p .board) (i .message) in
+      cond (roomy (p .progress) limit (length (p .output))) (run (advanced p (o .board) (i .next) (o .handed)) is) p
+
+-- ---- the call
+
+-- Finished where no bundle is out
+unfoldable pub answerOf : Progress → Answer
+answerOf p = cond (eqb (p .count) 0) Finished (Delivered (p .used) (p .next) (p .origin))
+
+unfoldable pub admission : Option Refusal → Admission
+admission none = Admitted
+admission (some refusal) = Denied refusal
