@@ -1,17 +1,23 @@
 -- Writing at an offset: `put` of specs/Octets.antt.
+--     put-four       four stores are a put
 --     put-paste      a finished copy is a put
 --     length-put     a put within a list keeps its length
 --     put-put        a put behind a put is one put of the two joined
 -- Assumes nothing.
 use mathlib.Core.Path.{_≡_, sym, ap, _∙_}
-use mathlib.Core.List.{List, _++_, append-assoc}
+use mathlib.Core.List.{List, [], _∷_, _++_, append-assoc}
 use Prim.Native.Nat.{ℕ, _+_, _≤_, _<_}
-use native.Mathlib.Numerals.{add-one}
+use native.Mathlib.Numerals.{towards-suc, add-one}
 use native.Mathlib.Nat.{add-assoc}
 use native.Mathlib.Omega.{arith}
 use lib.ListN.{length, take, drop, set, getD, length-append, length-take, length-drop}
-use lib.Seq.{paste, paste-suc, take-length, length-take-le, take-at, drop-at, drop-drop}
+use lib.Seq.{sets-eq, paste, paste-suc, take-length, length-take-le, take-at, drop-at, drop-drop}
 use Rattle.octets.specs.Octets.{put}
+
+pub put-four : (l : List ℕ) (at a b c d : ℕ) → at + 4 ≤ length l
+    → set (set (set (set l at a) (at + 1) b) (at + 2) c) (at + 3) d ≡ put l at (a ∷ b ∷ c ∷ d ∷ [])
+unfolding put
+put-four l at a b c d h = simp towards-suc (simp towards-suc at (sets-eq (a ∷ b ∷ c ∷ d ∷ []) l at h))
 
 pub put-paste : (d : List ℕ) (at : ℕ) (s : List ℕ) → paste d at s (length s) ≡ put d at s
 unfolding put

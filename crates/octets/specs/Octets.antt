@@ -1,11 +1,15 @@
--- Runs of octets: a number read, and a run written at an offset (document 01: "Numbers are big-endian").
-use mathlib.Core.List.{List, _++_}
-use Prim.Native.Nat.{ℕ, _+_, _*_}
+-- Runs of octets: a number read and written, and a run written at an offset (document 01: "Numbers are big-endian").
+use mathlib.Core.List.{List, [], _∷_, _++_}
+use Prim.Native.Nat.{ℕ, _+_, _*_, _/_, _%_}
 use lib.ListN.{length, getD, take, drop}
 
 -- the number of 32 bits at the head
 unfoldable pub number : List ℕ → ℕ
 number xs = getD xs 0 0 * 16777216 + getD xs 1 0 * 65536 + getD xs 2 0 * 256 + getD xs 3 0
+
+-- the four octets of a number below 2 ^ 32
+unfoldable pub be32 : ℕ → List ℕ
+be32 n = n / 16777216 ∷ n / 65536 % 256 ∷ n / 256 % 256 ∷ n % 256 ∷ []
 
 -- the octets vs from `at` on; all other octets of d stay
 unfoldable pub put : List ℕ → ℕ → List ℕ → List ℕ

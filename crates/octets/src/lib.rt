@@ -1,8 +1,9 @@
-// Runs of octets: reading a number, and copying a run to an offset.
+// Runs of octets: reading and writing a number, copying a run to an offset, and zeros up to the end.
 ghost use mathlib.Core.Path.{_≡_};
-ghost use Prim.Native.Nat.{_+_, _≤_, _<_};
-ghost use lib.ListN.{length, drop};
-ghost use Rattle.octets.specs.Octets.{number, put};
+ghost use mathlib.Core.List.{[], _∷_};
+ghost use Prim.Native.Nat.{_+_, _-_, _≤_, _<_};
+ghost use lib.ListN.{length, drop, replicate};
+ghost use Rattle.octets.specs.Octets.{number, be32, put};
 
 pub fn octet(x: u8) -> u32
     ensures { λ r. ⌜ (r ≡ x) × (r < 256) ⌝ }
@@ -24,6 +25,29 @@ pub fn number_at(s: &[u8], at: usize) -> u32
     octet(s[at]) * 16777216 + octet(s[at + 1]) * 65536 + octet(s[at + 2]) * 256 + octet(s[at + 3])
 }
 
+// Four octets, from `at` on.
+pub fn put_four(to: &mut [u8], at: usize, a: u8, b: u8, c: u8, d: u8)
+    requires { ⌜ at + 4 ≤ length (now to) ⌝ }
+    ensures { λ _. ⌜ now (to .exit) ≡ put (now (to .entry)) at (a ∷ b ∷ c ∷ d ∷ []) ⌝ }
+{
+    to[at] = a;
+    to[at + 1] = b;
+    to[at + 2] = c;
+    to[at + 3] = d;
+}
+
+// A number of 32 bits, from `at` on.
+pub fn put_number(to: &mut [u8], at: usize, n: u32)
+    requires { ⌜ at + 4 ≤ length (now to) ⌝ }
+    ensures { λ _. ⌜ now (to .exit) ≡ put (now (to .entry)) at (be32 n) ⌝ }
+{
+    let a = (n / 16777216) as u8;
+    let b = (n / 65536 % 256) as u8;
+    let c = (n / 256 % 256) as u8;
+    let d = (n % 256) as u8;
+    put_four(to, at, a, b, c, d);
+}
+
 // All of src, from `at` on.
 pub fn copy_into(to: &mut [u8], at: usize, src: &[u8])
     requires { ⌜ at + length (now src) ≤ length (now to) ⌝ }
@@ -32,6 +56,19 @@ pub fn copy_into(to: &mut [u8], at: usize, src: &[u8])
     let mut j = 0;
     while j < src.len() {
         to[at + j] = src[j];
+        j += 1;
+    }
+}
+
+// Zeros from `at` to the end.
+pub fn zero_from(to: &mut [u8], at: usize)
+    requires { ⌜ at ≤ length (now to) ⌝ }
+    ensures { λ _. ⌜ now (to .exit) ≡ put (now (to .entry)) at (replicate (length (now (to .entry)) - at) 0) ⌝ }
+{
+    let n = to.len() - at;
+    let mut j = 0;
+    while j < n {
+        to[at + j] = 0;
         j += 1;
     }
 }

@@ -1,6 +1,6 @@
 -- The receiving call: refused calls change nothing, refusals come in document 01's order, and a call that is not refused is the message loop
 -- with a limit of one bundle.
-use mathlib.Core.Bool.{true, false, not, _||_}
+use mathlib.Core.Bool.{Bool, cond, true, false, not, _||_}
 use mathlib.Core.List.{List, [], _∷_}
 use mathlib.Core.Logic.{_⊎_, inl, inr}
 use mathlib.Core.Option.{Option, none, some}
@@ -13,11 +13,13 @@ use lib.ListN.{length}
 use borrow.Author.Tests.{eqb-true, eqb-false, ltb-false, le-leb, not-false}
 use Rattle.octets.proofs.Flags.{bool, neither}
 use Rattle.wire.specs.Frame.{Item, checked}
+use Rattle.wire.specs.Message.{faultNumber}
 use Rattle.wire.specs.declared.Checked.{Checked}
 use Rattle.wire.specs.declared.Checked.the-variants as Frame
+use Rattle.wire.specs.declared.Fault.the-variants.{ShortHeader, ReservedFlag, PastFrame, PastMessage, BadContent}
 use Rattle.reassembly.specs.Row.{bundleMax}
 use Rattle.receiver.specs.Message.{Draft, Board, Handed, step}
-use Rattle.receiver.specs.Receive.{frameMax, Reply, frameRefusal, replied, delivered, refusal, treat, messagesFrom, receive}
+use Rattle.receiver.specs.Receive.{frameMax, refusalNumber, Reply, frameRefusal, replied, delivered, refusal, treat, messagesFrom, receive}
 use Rattle.receiver.specs.Run.{Run, progressed, advanced, run, answerOf, admission}
 use Rattle.receiver.specs.State.{sound}
 use Rattle.receiver.specs.declared.Admission.the-variants.{Admitted, Denied}
@@ -90,6 +92,62 @@ module _ (D : Draft) (w : ℕ) (b : Board) (frame : List ℕ) (place : ℕ) (out
             small = ltb-false frameMax (length frame) (f .1);
             accepted = accepts (checked (D .read) frame place) (rw (x, y, z) at e);
           }
+
+-- ---- the order of the refusals
+
+-- document 01's table: each number, and whether its case holds
+abbrev isFault : ℕ → Checked → Bool
+isFault n Frame.Accepted = false
+isFault n (Frame.Malformed fault at) = eqb (faultNumber fault) n
+isFault n Frame.Misplaced = false
+
+abbrev isMisplaced : Checked → Bool
+isMisplaced Frame.Accepted = false
+isMisplaced (Frame.Malformed fault at) = false
+isMisplaced Frame.Misplaced = true
+
+abbrev frameCases : Checked → List (ℕ × Bool)
+frameCases c = (4, isFault 4 c) ∷ (5, isFault 5 c) ∷ (6, isFault 6 c) ∷ (7, isFault 7 c) ∷ (8, isFault 8 c) ∷ (9, isMisplaced c) ∷ []
+
+-- the first number whose case holds, 0 for none
+unfoldable pub first : List (ℕ × Bool) → ℕ
+first [] = 0
+first (x ∷ xs) = cond (x .1) (x .0) (first xs)
+
+unfoldable pub numberOf : Option Refusal → ℕ
+numberOf none = 0
+numberOf (some q) = refusalNumber q
+
+frame-order : (c : Checked) → numberOf (frameRefusal c) ≡ first (frameCases c)
+unfolding numberOf first frameRefusal
+frame-order Frame.Accepted = refl
+frame-order (Frame.Malformed ShortHeader at) = refl
+frame-order (Frame.Malformed ReservedFlag at) = refl
+frame-order (Frame.Malformed PastFrame at) = refl
+frame-order (Frame.Malformed PastMessage at) = refl
+frame-order (Frame.Malformed BadContent at) = refl
+frame-order Frame.Misplaced = refl
+
+module _ (D : Draft) (w : ℕ) (b : Board) (frame : List ℕ) (place : ℕ) (output : List ℕ) where
+  abbrev pub cases : List (ℕ × Bool)
+  cases =
+      (1, not (sound (b .state)))
+      ∷ (2, not (eqb (length (b .pool)) (w * bundleMax)) || ltb (length output) bundleMax)
+      ∷ (3, eqb (length frame) 0 || ltb frameMax (length frame))
+      ∷ frameCases (checked (D .read) frame place)
+
+  -- the number given is the first of the table whose case holds
+  pub in-order : numberOf (refusal D w b frame place output) ≡ first cases
+  unfolding refusal numberOf first
+  in-order = go (bool (not (sound (b .state)))) (bool (not (eqb (length (b .pool)) (w * bundleMax)) || ltb (length output) bundleMax)) (bool (eqb (length frame) 0 || ltb frameMax (length frame)))
+    where
+      go : (not (sound (b .state)) ≡ true) ⊎ (not (sound (b .state)) ≡ false)
+          → ((not (eqb (length (b .pool)) (w * bundleMax)) || ltb (length output) bundleMax) ≡ true) ⊎ ((not (eqb (length (b .pool)) (w * bundleMax)) || ltb (length output) bundleMax) ≡ false)
+          → ((eqb (length frame) 0 || ltb frameMax (length frame)) ≡ true) ⊎ ((eqb (length frame) 0 || ltb frameMax (length frame)) ≡ false) → numberOf (refusal D w b frame place output) ≡ first cases
+      go (inl x) y z = rw x
+      go (inr x) (inl y) z = rw (x, y)
+      go (inr x) (inr y) (inl z) = rw (x, y, z)
+      go (inr x) (inr y) (inr z) = rw (x, y, z) (frame-order (checked (D .read) frame place))
 
 -- ---- the loop with a limit of one bundle
 

@@ -24,14 +24,14 @@ abbrev pub frameMax : ℕ
 frameMax = 2048
 
 -- document 01's numbers of refusal, and the place that the answer names: the first bad message's start, for 4 to 8
-unfoldable pub refusalNumber : Refusal → ℕ
+abbrev pub refusalNumber : Refusal → ℕ
 refusalNumber Unsound = 1
 refusalNumber BufferSize = 2
 refusalNumber FrameSize = 3
 refusalNumber (Malformed fault place) = faultNumber fault
 refusalNumber Misplaced = 9
 
-unfoldable pub refusalPlace : Refusal → Option ℕ
+abbrev pub refusalPlace : Refusal → Option ℕ
 refusalPlace Unsound = none
 refusalPlace BufferSize = none
 refusalPlace FrameSize = none

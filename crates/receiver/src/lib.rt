@@ -421,6 +421,19 @@ fn answer_of(p: Progress) -> Answer
     }
 }
 
+// Document 01's number of a refusal.
+pub fn refusal_number(refusal: Refusal) -> u32
+    ensures { λ r. ⌜ r ≡ Call.refusalNumber refusal ⌝ }
+{
+    match refusal {
+        Refusal::Unsound => 1,
+        Refusal::BufferSize => 2,
+        Refusal::FrameSize => 3,
+        Refusal::Malformed(fault, _) => wire::fault_number(fault),
+        Refusal::Misplaced => 9,
+    }
+}
+
 // Takes the messages of a frame from a place on, up to the first bundle handed out, which goes to the front of the output.
 pub fn receive(
     state: State,

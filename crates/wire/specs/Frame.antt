@@ -9,7 +9,7 @@ use Rattle.wire.specs.declared.Reading.{Reading}
 use Rattle.wire.specs.declared.Reading.the-variants.{Good, Bad}
 use Rattle.wire.specs.declared.Checked.{Checked}
 use Rattle.wire.specs.declared.Checked.the-variants.{Accepted, Malformed, Misplaced}
-use Rattle.wire.specs.Message.{Message, Read, bad, good, faultNumber}
+use Rattle.wire.specs.Message.{Message, Read, bad, good}
 
 -- A message in its frame.
 pub record Item : Type 0 where
@@ -75,14 +75,3 @@ from p (i ∷ is) = cond (eqb (i .start) p) (i ∷ is) (from p is)
 abbrev pub readingChecked : Reading → ℕ → Checked
 readingChecked (Good s) at = Accepted
 readingChecked (Bad r) at = Malformed r at
-
--- Document 01's number of refusal, 0 for none, and the position that it names, 0 where it names none.
-unfoldable pub checkedNumber : Checked → ℕ
-checkedNumber Accepted = 0
-checkedNumber (Malformed r p) = faultNumber r
-checkedNumber Misplaced = 9
-
-unfoldable pub checkedPosition : Checked → ℕ
-checkedPosition Accepted = 0
-checkedPosition (Malformed r p) = p
-checkedPosition Misplaced = 0

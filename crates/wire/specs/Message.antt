@@ -24,7 +24,7 @@ pub data Read : Type 0 where
   good : Message → ℕ → Read
 
 -- Document 01's numbers of refusal.
-unfoldable pub faultNumber : Fault → ℕ
+abbrev pub faultNumber : Fault → ℕ
 faultNumber ShortHeader = 4
 faultNumber ReservedFlag = 5
 faultNumber PastFrame = 6

@@ -1,8 +1,10 @@
-// The messages of a frame: reading one, and checking a whole frame (document 01, "Octets of a frame").
+// The messages of a frame: reading one, checking a whole frame, writing one (document 01, "Octets of a frame").
+pub mod write;
+
 ghost use mathlib.Core.Path.{_≡_};
 ghost use Prim.Native.Nat.{_+_, _≤_, _<_};
 ghost use lib.ListN.{length, drop};
-ghost use Rattle.wire.specs.Message.{answer};
+ghost use Rattle.wire.specs.Message.{answer, faultNumber};
 ghost use Rattle.wire.specs.Layout.{zeros, kindOf, lengthField, chain, hints, left, fitting, bodied, read};
 ghost use Rattle.wire.specs.Frame.{checked, readingChecked};
 
@@ -46,6 +48,18 @@ pub enum Checked {
     Accepted,
     Malformed(Fault, usize),
     Misplaced,
+}
+
+pub fn fault_number(fault: Fault) -> u32
+    ensures { λ r. ⌜ r ≡ faultNumber fault ⌝ }
+{
+    match fault {
+        Fault::ShortHeader => 4,
+        Fault::ReservedFlag => 5,
+        Fault::PastFrame => 6,
+        Fault::PastMessage => 7,
+        Fault::BadContent => 8,
+    }
 }
 
 // The end of the run of zero octets at a position.

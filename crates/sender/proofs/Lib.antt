@@ -1,0 +1,11 @@
+-- Laws for callers.
+--     Refusals   the refusal given is the first that applies, and then nothing changes
+--     Kept       every call leaves a sound state sound
+--     Ways       the ways through the calls
+--     Facts      what a sound state says
+pub mod Facts
+pub mod Steps
+pub mod Ways
+pub mod Refusals
+pub mod Kept
+mod Cases

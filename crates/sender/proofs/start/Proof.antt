@@ -1,0 +1,20 @@
+-- `sender::start` meets its contract.
+use Rattle.sender.specs.Answers.{refusalNumber, startReply}
+use Rattle.sender.specs.Calls.{start}
+use borrow.Author.Needs.{needs}
+use Rattle.sender.proofs.start.Statement.{statement}
+use Rattle.sender.proofs.start.Tie as tie
+
+sized-requires : tie.Need-sized-requires
+sized-requires c κs = search needs
+
+returns : tie.Need-returns
+unfolding start startReply
+returns c = rw (← c .before .sized .ensures, c .if1 .taken)
+
+returns-2 : tie.Need-returns-2
+unfolding start startReply refusalNumber
+returns-2 c = rw (← c .before .sized .ensures, c .if1 .left)
+
+pub start-spec : {M : Type 1} → statement M
+start-spec = tie.close (tie.spec sized-requires returns returns-2)
