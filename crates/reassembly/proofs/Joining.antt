@@ -8,7 +8,7 @@ use native.Mathlib.Nat.{eq-or-lt-of-le}
 use native.Mathlib.Numerals.{add-one}
 use native.Mathlib.Omega.{arith}
 use lib.ListN.{length, take, drop, length-append, length-drop}
-use lib.Seq.{length-take-le}
+use lib.Seq.{length-take-le, drop-drop}
 use lib.Dec.{eqb, ltb}
 use borrow.Author.Tests.{eqb-true, eqb-false, lt-ltb, le-ltb, ltb-true, ltb-false}
 use Rattle.octets.specs.Octets.{put}
@@ -118,3 +118,13 @@ module _ (is ls cell : List ℕ) (fits : sumOf ls ≤ length cell) where
   pub joined-zero : (out : List ℕ) → out ≡ put out 0 (joined false 0 is ls cell)
   unfolding joined put
   joined-zero out = refl
+
+-- the first piece, or a piece behind it
+pub piece-cons : (i j l : ℕ) (js ls cell : List ℕ) → piece i (j ∷ js) (l ∷ ls) cell ≡ cond (eqb j i) (take l cell) (piece i js ls (drop l cell))
+unfolding piece sizeOf startOf
+piece-cons i j l js ls cell = go (bool (eqb j i))
+  where
+    go : (eqb j i ≡ true) ⊎ (eqb j i ≡ false)
+        → take (cond (eqb j i) l (sizeOf i js ls)) (drop (cond (eqb j i) 0 (l + startOf i js ls)) cell) ≡ cond (eqb j i) (take l cell) (take (sizeOf i js ls) (drop (startOf i js ls) (drop l cell)))
+    go (inl e) = rw e
+    go (inr e) = rw (e, drop-drop (startOf i js ls) l cell)

@@ -1,178 +1,107 @@
--- The receiving call: refused calls change nothing, refusals come in document 01's order, and a call that is not refused is the message loop
--- with a limit of one bundle.
-use mathlib.Core.Bool.{Bool, cond, true, false, not, _||_}
-use mathlib.Core.List.{List, [], _∷_}
-use mathlib.Core.Logic.{_⊎_, inl, inr}
+-- A receiving call by cases, and the messages of a frame treated one after the other, of which each call treats some.
+use mathlib.Core.Path.{_≡_, refl, ap}
+use mathlib.Core.Bool.{Bool, true, false, _||_}
 use mathlib.Core.Option.{Option, none, some}
-use mathlib.Core.Path.{_≡_, refl}
-use Prim.Native.Nat.{ℕ, _*_, _≤_, _<_}
-use native.Mathlib.Nat.{zero-add, sub-zero}
+use mathlib.Core.List.{List, [], _∷_, _++_, map}
+use Prim.Native.Nat.{ℕ, _+_, _*_, _≤_, _<_}
 use native.Mathlib.Omega.{arith}
+use lib.ListN.{length, take, drop}
+use lib.Seq.{take-append-seam}
 use lib.Dec.{eqb, ltb}
-use lib.ListN.{length}
-use borrow.Author.Tests.{eqb-true, eqb-false, ltb-false, le-leb, not-false}
-use Rattle.octets.proofs.Flags.{bool, neither}
-use Rattle.wire.specs.Frame.{Item, checked}
-use Rattle.wire.specs.Message.{faultNumber}
-use Rattle.wire.specs.declared.Checked.{Checked}
-use Rattle.wire.specs.declared.Checked.the-variants as Frame
-use Rattle.wire.specs.declared.Fault.the-variants.{ShortHeader, ReservedFlag, PastFrame, PastMessage, BadContent}
+use borrow.Author.Tests.{eq-eqb, ne-eqb, le-ltb}
+use Rattle.octets.specs.Octets.{put}
+use Rattle.wire.specs.Message.{Message}
+use Rattle.wire.specs.Frame.{Item, row, items, scanned, starts, checked, judged, from}
 use Rattle.reassembly.specs.Row.{bundleMax}
-use Rattle.receiver.specs.Message.{Draft, Board, Handed, step}
-use Rattle.receiver.specs.Receive.{frameMax, refusalNumber, Reply, frameRefusal, replied, delivered, refusal, treat, messagesFrom, receive}
-use Rattle.receiver.specs.Run.{Run, progressed, advanced, run, answerOf, admission}
-use Rattle.receiver.specs.State.{sound}
-use Rattle.receiver.specs.declared.Admission.the-variants.{Admitted, Denied}
-use Rattle.receiver.specs.declared.Answer.the-variants.{Refused}
-use Rattle.receiver.specs.declared.Origin.{Origin}
 use Rattle.receiver.specs.declared.Refusal.{Refusal}
-use Rattle.receiver.specs.declared.Refusal.the-variants.{Malformed, Misplaced}
+use Rattle.receiver.specs.declared.Answer.the-variants.{Delivered, Finished, Refused}
+use Rattle.receiver.specs.State as State
+use Rattle.receiver.specs.Message.{Draft, Board, Handed, step}
+use Rattle.receiver.specs.Receive.{frameMax, frameRefusal, replied, delivered, messagesFrom, refusal, treat, receive}
 
-clash : {A : Type 0} → true ≡ false → A
-clash e = absurd (let z : _≡_ {A = ℕ} 0 1 = cc in omega arith)
+-- what messages hand out, and the board that they leave
+unfoldable pub listed : Option Handed → List Handed
+listed none = []
+listed (some h) = h ∷ []
 
--- ---- admission
+module _ (w : ℕ) (falling : Bool) where
+  unfoldable pub boardAfter : Board → List Message → Board
+  boardAfter b [] = b
+  boardAfter b (m ∷ ms) = boardAfter (step w falling b m .board) ms
 
-pub denied : (o : Option Refusal) (q : Refusal) → admission o ≡ Denied q → o ≡ some q
-unfolding admission
-denied none q e = absurd (let z : _≡_ {A = ℕ} 0 1 = cc in omega arith)
-denied (some r) q e = cc
+  unfoldable pub handedBy : Board → List Message → List Handed
+  handedBy b [] = []
+  handedBy b (m ∷ ms) = listed (step w falling b m .handed) ++ handedBy (step w falling b m .board) ms
 
-pub admitted : (o : Option Refusal) → admission o ≡ Admitted → o ≡ none
-unfolding admission
-admitted none e = refl
-admitted (some r) e = absurd (let z : _≡_ {A = ℕ} 0 1 = cc in omega arith)
-
-module _ (D : Draft) (w : ℕ) (b : Board) (frame : List ℕ) (place : ℕ) (output : List ℕ) where
-  -- a call that is refused gives back state, pool and output as they were
-  pub refused : (q : Refusal) → refusal D w b frame place output ≡ some q → receive D w b frame place output ≡ record { answer = Refused q; board = b; output = output }
-  unfolding receive replied
-  refused q e = rw e
-
-  pub treated : refusal D w b frame place output ≡ none → receive D w b frame place output ≡ treat D w b (messagesFrom D frame place) output
-  unfolding receive replied
-  treated e = rw e
-
-  -- what a call that is not refused has
-  pub record Admits : Type 0 where
-    pub state : sound (b .state) ≡ true
-    pub pool : length (b .pool) ≡ w * bundleMax
-    pub room : bundleMax ≤ length output
-    pub some : 0 < length frame
-    pub small : length frame ≤ frameMax
-    pub accepted : checked (D .read) frame place ≡ Frame.Accepted
-
-  accepts : (c : Checked) → frameRefusal c ≡ none → c ≡ Frame.Accepted
-  unfolding frameRefusal
-  accepts Frame.Accepted e = refl
-  accepts (Frame.Malformed f p) e = absurd (let z : _≡_ {A = ℕ} 0 1 = cc in omega arith)
-  accepts Frame.Misplaced e = absurd (let z : _≡_ {A = ℕ} 0 1 = cc in omega arith)
-
-  pub admits : refusal D w b frame place output ≡ none → Admits
-  unfolding refusal
-  admits e = go (bool (not (sound (b .state)))) (bool (not (eqb (length (b .pool)) (w * bundleMax)) || ltb (length output) bundleMax)) (bool (eqb (length frame) 0 || ltb frameMax (length frame)))
-    where
-      never : {q : Refusal} → some q ≡ none → Admits
-      never e = absurd (let z : _≡_ {A = ℕ} 0 1 = cc in omega arith)
-
-      go : (not (sound (b .state)) ≡ true) ⊎ (not (sound (b .state)) ≡ false)
-          → ((not (eqb (length (b .pool)) (w * bundleMax)) || ltb (length output) bundleMax) ≡ true) ⊎ ((not (eqb (length (b .pool)) (w * bundleMax)) || ltb (length output) bundleMax) ≡ false)
-          → ((eqb (length frame) 0 || ltb frameMax (length frame)) ≡ true) ⊎ ((eqb (length frame) 0 || ltb frameMax (length frame)) ≡ false) → Admits
-      go (inl x) y z = never (rw x at e)
-      go (inr x) (inl y) z = never (rw (x, y) at e)
-      go (inr x) (inr y) (inl z) = never (rw (x, y, z) at e)
-      go (inr x) (inr y) (inr z) =
-          let p = neither (not (eqb (length (b .pool)) (w * bundleMax))) (ltb (length output) bundleMax) y in
-          let f = neither (eqb (length frame) 0) (ltb frameMax (length frame)) z in
-          record {
-            state = not-false (sound (b .state)) x;
-            pool = eqb-true (length (b .pool)) (w * bundleMax) (not-false (eqb (length (b .pool)) (w * bundleMax)) (p .0));
-            room = ltb-false (length output) bundleMax (p .1);
-            some = omega (arith, eqb-false (length frame) 0 (f .0));
-            small = ltb-false frameMax (length frame) (f .1);
-            accepted = accepts (checked (D .read) frame place) (rw (x, y, z) at e);
-          }
-
--- ---- the order of the refusals
-
--- document 01's table: each number, and whether its case holds
-abbrev isFault : ℕ → Checked → Bool
-isFault n Frame.Accepted = false
-isFault n (Frame.Malformed fault at) = eqb (faultNumber fault) n
-isFault n Frame.Misplaced = false
-
-abbrev isMisplaced : Checked → Bool
-isMisplaced Frame.Accepted = false
-isMisplaced (Frame.Malformed fault at) = false
-isMisplaced Frame.Misplaced = true
-
-abbrev frameCases : Checked → List (ℕ × Bool)
-frameCases c = (4, isFault 4 c) ∷ (5, isFault 5 c) ∷ (6, isFault 6 c) ∷ (7, isFault 7 c) ∷ (8, isFault 8 c) ∷ (9, isMisplaced c) ∷ []
-
--- the first number whose case holds, 0 for none
-unfoldable pub first : List (ℕ × Bool) → ℕ
-first [] = 0
-first (x ∷ xs) = cond (x .1) (x .0) (first xs)
-
-unfoldable pub numberOf : Option Refusal → ℕ
-numberOf none = 0
-numberOf (some q) = refusalNumber q
-
-frame-order : (c : Checked) → numberOf (frameRefusal c) ≡ first (frameCases c)
-unfolding numberOf first frameRefusal
-frame-order Frame.Accepted = refl
-frame-order (Frame.Malformed ShortHeader at) = refl
-frame-order (Frame.Malformed ReservedFlag at) = refl
-frame-order (Frame.Malformed PastFrame at) = refl
-frame-order (Frame.Malformed PastMessage at) = refl
-frame-order (Frame.Malformed BadContent at) = refl
-frame-order Frame.Misplaced = refl
-
-module _ (D : Draft) (w : ℕ) (b : Board) (frame : List ℕ) (place : ℕ) (output : List ℕ) where
-  abbrev pub cases : List (ℕ × Bool)
-  cases =
-      (1, not (sound (b .state)))
-      ∷ (2, not (eqb (length (b .pool)) (w * bundleMax)) || ltb (length output) bundleMax)
-      ∷ (3, eqb (length frame) 0 || ltb frameMax (length frame))
-      ∷ frameCases (checked (D .read) frame place)
-
-  -- the number given is the first of the table whose case holds
-  pub in-order : numberOf (refusal D w b frame place output) ≡ first cases
-  unfolding refusal numberOf first
-  in-order = go (bool (not (sound (b .state)))) (bool (not (eqb (length (b .pool)) (w * bundleMax)) || ltb (length output) bundleMax)) (bool (eqb (length frame) 0 || ltb frameMax (length frame)))
-    where
-      go : (not (sound (b .state)) ≡ true) ⊎ (not (sound (b .state)) ≡ false)
-          → ((not (eqb (length (b .pool)) (w * bundleMax)) || ltb (length output) bundleMax) ≡ true) ⊎ ((not (eqb (length (b .pool)) (w * bundleMax)) || ltb (length output) bundleMax) ≡ false)
-          → ((eqb (length frame) 0 || ltb frameMax (length frame)) ≡ true) ⊎ ((eqb (length frame) 0 || ltb frameMax (length frame)) ≡ false) → numberOf (refusal D w b frame place output) ≡ first cases
-      go (inl x) y z = rw x
-      go (inr x) (inl y) z = rw (x, y)
-      go (inr x) (inr y) (inl z) = rw (x, y, z)
-      go (inr x) (inr y) (inr z) = rw (x, y, z) (frame-order (checked (D .read) frame place))
-
--- ---- the loop with a limit of one bundle
-
-abbrev pub replyOf : Run → Reply
-replyOf p = record { answer = answerOf (p .progress); board = p .board; output = p .output }
-
-abbrev fresh : Board → List ℕ → ℕ → Origin → Run
-fresh b output next origin = record { board = b; output = output; progress = record { count = 0; used = 0; next = next; origin = origin } }
+abbrev pub messagesIn : List Item → List Message
+messagesIn is = map (λ (i : Item). i .message) is
 
 module _ (D : Draft) (w : ℕ) where
-  -- a bundle is out: the limit is reached
-  full : (p : Run) (is : List Item) → p .progress .count ≡ 1 → run w (D .falling) 1 p is ≡ p
-  unfolding run
-  full p [] e = refl
-  full p (i ∷ is) e = rw e
+  -- A call is refused and changes nothing, or treats the messages from its place on.
+  pub data Called (b : Board) (frame : List ℕ) (place : ℕ) (output : List ℕ) : Type 0 where
+    denied : (r : Refusal) → receive D w b frame place output ≡ record { answer = Refused r; board = b; output = output } → Called b frame place output
+    treated : receive D w b frame place output ≡ treat D w b (messagesFrom D frame place) output → Called b frame place output
 
-  one-turn : (b b′ : Board) (x : Option Handed) (at : ℕ) (is : List Item) (output : List ℕ) (next : ℕ) (origin : Origin) → replyOf (run w (D .falling) 1 (fresh b′ output at origin) is) ≡ treat D w b′ is output
-      → replyOf (run w (D .falling) 1 (advanced (fresh b output next origin) b′ at x) is) ≡ delivered x b′ at output (treat D w b′ is output)
-  unfolding advanced progressed delivered answerOf
-  one-turn b b′ none at is output next origin later = later
-  one-turn b b′ (some h) at is output next origin later = rw (full (advanced (fresh b output next origin) b′ at (some h)) is refl, zero-add)
+  pub called : (b : Board) (frame : List ℕ) (place : ℕ) (output : List ℕ) → Called b frame place output
+  unfolding receive replied
+  called b frame place output = go (refusal D w b frame place output) refl
+    where
+      go : (r : Option Refusal) → refusal D w b frame place output ≡ r → Called b frame place output
+      go none e = treated (rw e)
+      go (some r) e = denied r (rw e)
 
-  pub one-bundle : (b : Board) (is : List Item) (output : List ℕ) (next : ℕ) (origin : Origin) → bundleMax ≤ length output → replyOf (run w (D .falling) 1 (fresh b output next origin) is) ≡ treat D w b is output
-  unfolding run treat answerOf
-  one-bundle b [] output next origin h = refl
-  one-bundle b (i ∷ is) output next origin h =
-      let o = step w (D .falling) b (i .message) in
-      rw (sub-zero, le-leb bundleMax (length output) h) (one-turn b (o .board) (o .handed) (i .next) is output next origin (one-bundle (o .board) is output (i .next) origin h))
+  -- What treating some items comes to: all are treated, or those up to the first that hands out a bundle.
+  pub data Treated (b : Board) (is : List Item) (output : List ℕ) : Type 0 where
+    through : treat D w b is output .answer ≡ Finished → handedBy w (D .falling) b (messagesIn is) ≡ [] → boardAfter w (D .falling) b (messagesIn is) ≡ treat D w b is output .board
+        → Treated b is output
+    stops : (pre : List Item) (i : Item) (suf : List Item) (h : Handed) → is ≡ pre ++ i ∷ suf
+        → treat D w b is output .answer ≡ Delivered (length (h .octets)) (i .next) (h .origin)
+        → take (length (h .octets)) (treat D w b is output .output) ≡ h .octets
+        → handedBy w (D .falling) b (messagesIn is) ≡ h ∷ handedBy w (D .falling) (treat D w b is output .board) (messagesIn suf)
+        → boardAfter w (D .falling) b (messagesIn is) ≡ boardAfter w (D .falling) (treat D w b is output .board) (messagesIn suf)
+        → Treated b is output
+
+  pub treating : (b : Board) (is : List Item) (output : List ℕ) → Treated b is output
+  unfolding treat handedBy boardAfter listed delivered put
+  treating b [] output = through refl refl refl
+  treating b (i ∷ is) output = go (step w (D .falling) b (i .message) .handed) refl (treating (step w (D .falling) b (i .message) .board) is output)
+    where
+      go : (o : Option Handed) → step w (D .falling) b (i .message) .handed ≡ o → Treated (step w (D .falling) b (i .message) .board) is output → Treated b (i ∷ is) output
+      go none e (through a h r) = through (rw e a) (rw e h) (rw e r)
+      go none e (stops pre j suf h q a t hs r) = stops (i ∷ pre) j suf h (ap (λ l. i ∷ l) q) (rw e a) (rw e t) (rw e hs) (rw e r)
+      go (some h) e r = stops [] i is h refl (rw e) (rw e (take-append-seam (h .octets) (drop (0 + length (h .octets)) output))) (rw e) (rw e)
+
+  treat-answers : {A : Type 0} (b : Board) (is : List Item) (output : List ℕ) (r : Refusal) → treat D w b is output .answer ≡ Refused r → A
+  treat-answers {A} b is output r e = go (treating b is output)
+    where
+      go : Treated b is output → A
+      go (through a h q) = let z : _≡_ {A = ℕ} 0 1 = cc in absurd (omega arith)
+      go (stops pre i suf h q a t hs v) = let z : _≡_ {A = ℕ} 0 1 = cc in absurd (omega arith)
+
+  pub refused-keeps : (b : Board) (frame : List ℕ) (place : ℕ) (output : List ℕ) (r : Refusal) → receive D w b frame place output .answer ≡ Refused r → receive D w b frame place output .board ≡ b
+  refused-keeps b frame place output r e = go (called b frame place output)
+    where
+      go : Called b frame place output → receive D w b frame place output .board ≡ b
+      go (denied q e) = rw e
+      go (treated q) = treat-answers b (messagesFrom D frame place) output r (rw q at e)
+
+  -- a call that is not refused treats
+  pub not-refused : (b : Board) (frame : List ℕ) (place : ℕ) (output : List ℕ) → ((r : Refusal) → receive D w b frame place output .answer ≡ Refused r → ⊥)
+      → receive D w b frame place output ≡ treat D w b (messagesFrom D frame place) output
+  not-refused b frame place output never = go (called b frame place output)
+    where
+      go : Called b frame place output → receive D w b frame place output ≡ treat D w b (messagesFrom D frame place) output
+      go (denied r e) = absurd (never r (rw e))
+      go (treated q) = q
+
+  -- a call on a sound state, with a pool and an output of good size, a well-formed frame and a good place
+  pub admitted : (b : Board) (frame : List ℕ) (place : ℕ) (output : List ℕ) (is : List Item) → State.sound (b .state) ≡ true → length (b .pool) ≡ w * bundleMax → bundleMax ≤ length output
+      → 0 < length frame → length frame ≤ frameMax → scanned (D .read) frame ≡ row is → (eqb place (length frame) || starts place is) ≡ true
+      → receive D w b frame place output ≡ treat D w b (from place is) output
+  unfolding receive refusal replied frameRefusal checked judged messagesFrom items
+  admitted b frame place output is s p o positive small whole good =
+      let e₁ : eqb (length (b .pool)) (w * bundleMax) ≡ true = eq-eqb (length (b .pool)) (w * bundleMax) p in
+      let e₂ : ltb (length output) bundleMax ≡ false = le-ltb (length output) bundleMax o in
+      let e₃ : eqb (length frame) 0 ≡ false = ne-eqb (length frame) 0 (omega arith) in
+      let e₄ : ltb frameMax (length frame) ≡ false = le-ltb frameMax (length frame) small in
+      rw (s, e₁, e₂, e₃, e₄, whole, good)

@@ -5,10 +5,11 @@ use mathlib.Core.Logic.{_⊎_, inl, inr}
 use mathlib.Core.Option.{Option, none, some}
 use mathlib.Core.Path.{_≡_, refl, sym, _∙_, subst}
 use Prim.Native.Nat.{ℕ, _+_, _-_, _*_, _^_, _≤_, _<_}
+use native.Mathlib.Nat.{zero-add, sub-zero}
 use native.Mathlib.Omega.{arith}
 use lib.Dec.{ltb, leb}
 use lib.ListN.{length, getD, take, drop, set, length-take, length-drop}
-use borrow.Author.Tests.{ltb-true, ltb-false, leb-true}
+use borrow.Author.Tests.{ltb-true, ltb-false, leb-true, le-leb}
 use borrow.Rule.Slice.PartMut.{putMid}
 use Rattle.octets.proofs.Flags.{bool, both}
 use Rattle.octets.proofs.Put.{length-put}
@@ -33,14 +34,14 @@ use Rattle.reassembly.specs.declared.Phase.the-variants.{Free}
 use Rattle.reassembly.specs.declared.Row.{Row}
 use Rattle.reassembly.specs.declared.Taken.{Taken}
 use Rattle.reassembly.proofs.Kept.{Shaped}
-use Rattle.receiver.specs.Message.{draft02, Board, Outcome, handedOf, cellAt, putCell, step}
-use Rattle.receiver.specs.Receive.{messagesFrom}
-use Rattle.receiver.specs.Run.{Run, begun, visitOf, found, admits, rowStep, size, progressed, advanced, roomy, run}
+use Rattle.receiver.specs.Message.{Draft, draft02, Board, Handed, Outcome, handedOf, cellAt, putCell, step}
+use Rattle.receiver.specs.Receive.{Reply, delivered, treat, messagesFrom}
+use Rattle.receiver.specs.Run.{Run, begun, visitOf, found, admits, rowStep, size, progressed, advanced, roomy, run, answerOf}
 use Rattle.receiver.specs.declared.Origin.{Origin}
 use Rattle.receiver.specs.declared.Progress.{Progress}
 use Rattle.receiver.specs.declared.Visit.{Visit}
 use Rattle.receiver.proofs.Cells.{writtenAt, lent-cell, cell-back, output-back}
-use Rattle.receiver.proofs.Visits.{cleared, landed, visited, outcome, landed-step, row-cell, row-fits, Visiting, visiting, visit-slot, visit-admits, Ready, visited-sound, cell-full, landed-ready}
+use Rattle.receiver.proofs.Visits.{cleared, landed, visited, outcome, landed-step, row-cell, row-fits, Visiting, visiting, visit-slot, visit-admits, Sound, visited-sound, cell-full, landed-sound}
 
 -- the messages that the loop has yet to treat
 abbrev pub left : List ℕ → Run → List Item
@@ -50,7 +51,7 @@ left frame p = items (scanAt read frame (p .progress .next))
 pub record Going (limit : ℕ) (frame : List ℕ) (p₀ : Run) (is : List Item) (size : ℕ) (p : Run) : Type 0 where
   pub same : run windowSize false limit p₀ is ≡ run windowSize false limit p (left frame p)
   pub here : scanAt read frame (p .progress .next) ≡ row (left frame p)
-  pub ready : Ready windowSize (p .board)
+  pub ready : Sound windowSize (p .board)
   pub low : p .board .state .greatest < 2 ^ 32
   pub output : length (p .output) ≡ size
   pub used : p .progress .used ≤ size
@@ -176,7 +177,7 @@ module _ (limit : ℕ) (frame : List ℕ) (p₀ : Run) (is₀ : List Item) (n : 
             record {
               same = rw (e, r) same;
               here = rw (e, r) (follows .then);
-              ready = landed-ready windowSize sixteen false b (G .ready) content visits shaped;
+              ready = landed-sound windowSize sixteen false b (G .ready) content visits shaped;
               low = low;
               output = written-length (p .progress .used) (o .bundle) (p .output) room′ ∙ G .output;
               used = progressed-used (p .progress) (o .bundle) (m .end) (v .origin) n (G .used) λ x q. omega (arith, room′ x q, G .output);
@@ -220,7 +221,7 @@ module _ (limit : ℕ) (frame : List ℕ) (p₀ : Run) (is₀ : List Item) (n : 
     turned x e = subst Turned (sym e) turned-here
 
 -- the loop begins
-pub begins : (limit : ℕ) (frame : List ℕ) (place : ℕ) (b : Board) (output : List ℕ) → checked read frame place ≡ Accepted → Ready windowSize b → b .state .greatest < 2 ^ 32
+pub begins : (limit : ℕ) (frame : List ℕ) (place : ℕ) (b : Board) (output : List ℕ) → checked read frame place ≡ Accepted → Sound windowSize b → b .state .greatest < 2 ^ 32
     → Going limit frame (begun b output place) (messagesFrom draft02 frame place) (length output) (begun b output place)
 unfolding messagesFrom
 begins limit frame place b output accepted ready low =
@@ -252,3 +253,31 @@ pub never-bad : {A : Type 0} (limit : ℕ) (frame : List ℕ) (p₀ : Run) (is :
 never-bad limit frame p₀ is n p G test q told =
     Items.never frame (p .progress .next) (left frame p) (G .here)
     (ltb-true _ _ (both (ltb (p .progress .next) (length frame)) (roomy (p .progress) limit (length (p .output))) test .0)) q told
+
+-- ---- the receiving call is the loop with a limit of one bundle
+
+abbrev pub replyOf : Run → Reply
+replyOf p = record { answer = answerOf (p .progress); board = p .board; output = p .output }
+
+abbrev unstarted : Board → List ℕ → ℕ → Origin → Run
+unstarted b output next origin = record { board = b; output = output; progress = record { count = 0; used = 0; next = next; origin = origin } }
+
+module _ (D : Draft) (w : ℕ) where
+  -- a bundle is out: the limit is reached
+  full : (p : Run) (is : List Item) → p .progress .count ≡ 1 → run w (D .falling) 1 p is ≡ p
+  unfolding run
+  full p [] e = refl
+  full p (i ∷ is) e = rw e
+
+  one-turn : (b b′ : Board) (x : Option Handed) (at : ℕ) (is : List Item) (output : List ℕ) (next : ℕ) (origin : Origin) → replyOf (run w (D .falling) 1 (unstarted b′ output at origin) is) ≡ treat D w b′ is output
+      → replyOf (run w (D .falling) 1 (advanced (unstarted b output next origin) b′ at x) is) ≡ delivered x b′ at output (treat D w b′ is output)
+  unfolding advanced progressed delivered answerOf
+  one-turn b b′ none at is output next origin later = later
+  one-turn b b′ (some h) at is output next origin later = rw (full (advanced (unstarted b output next origin) b′ at (some h)) is refl, zero-add)
+
+  pub one-bundle : (b : Board) (is : List Item) (output : List ℕ) (next : ℕ) (origin : Origin) → bundleMax ≤ length output → replyOf (run w (D .falling) 1 (unstarted b output next origin) is) ≡ treat D w b is output
+  unfolding run treat answerOf
+  one-bundle b [] output next origin h = refl
+  one-bundle b (i ∷ is) output next origin h =
+      let o = step w (D .falling) b (i .message) in
+      rw (sub-zero, le-leb bundleMax (length output) h) (one-turn b (o .board) (o .handed) (i .next) is output next origin (one-bundle (o .board) is output (i .next) origin h))

@@ -1,4 +1,4 @@
--- A message as the code takes it, where it goes first and its row then, is the step of the definition; and it leaves a board ready.
+-- A message as the code takes it, where it goes first and its row then, is the step of the definition; and it leaves a board sound.
 use mathlib.Core.Bool.{Bool, true, false, cond, _||_}
 use mathlib.Core.List.{List}
 use mathlib.Core.Option.{Option, none, some}
@@ -18,7 +18,7 @@ use Rattle.wire.specs.declared.Kind.the-variants as Kinds
 use Rattle.window.specs.Window.{Window, standingOf}
 use Rattle.window.specs.declared.Standing.{Standing}
 use Rattle.window.specs.declared.Standing.the-variants.{Inside, New, Outside}
-use Rattle.window.proofs.Entering.{entered, row-below}
+use Rattle.window.proofs.Entering.{entered, inside-present, row-below}
 use Rattle.reassembly.specs.Row.{bundleMax, emptyRow, soundRow, cancelStep}
 use Rattle.reassembly.specs.Row as Rules
 use Rattle.reassembly.specs.declared.Phase.the-variants.{Free}
@@ -127,14 +127,9 @@ pub data Visiting (w : ℕ) (present : Bool) (g : ℕ) : Visit → Type 0 where
   goes : (v : Visit) → v .slot < w → v .present ≡ true → Visiting w present g v
 
 module _ (w : ℕ) (win : Window w) (present : Bool) (g : ℕ) where
-  inside-present : (p : Bool) (t : ℕ) → standingOf w p g t ≡ Inside → p ≡ true
-  unfolding standingOf
-  inside-present true t e = refl
-  inside-present false t e = absurd (let z : _≡_ {A = ℕ} 0 1 = cc in omega arith)
-
   visiting-transfer : (act : Act) (t : ℕ) (d : Standing) → standingOf w present g t ≡ d → Visiting w present g (transferVisit w d present g act t)
   unfolding transferVisit rowStep
-  visiting-transfer act t Inside e = goes _ (row-below w win t) (inside-present present t e)
+  visiting-transfer act t Inside e = goes _ (row-below w win t) (inside-present w g present t e)
   visiting-transfer act t (New d) e = goes _ (row-below w win t) refl
   visiting-transfer act t Outside e = stays Pass λ falling content r cell. refl
 
@@ -165,13 +160,13 @@ module _ (w : ℕ) (win : Window w) (present : Bool) (g : ℕ) where
   visit-admits Kinds.End content f l = admits-transfer (length content) (Piece true) (number content) (standingOf w present g (number content)) f
   visit-admits Kinds.Cancel content f l = admits-transfer (length content) Cancel (number content) (standingOf w present g (number content)) refl
 
--- a board that no call refuses for its state or its pool
-pub record Ready (w : ℕ) (b : Board) : Type 0 where
+-- a board with a sound state of w rows, and a pool of their size
+pub record Sound (w : ℕ) (b : Board) : Type 0 where
   pub sound : sound (b .state) ≡ true
   pub rows : length (b .state .rows) ≡ w
   pub pool : length (b .pool) ≡ w * bundleMax
 
-module _ (w : ℕ) (win : Window w) (falling : Bool) (b : Board) (R : Ready w b) where
+module _ (w : ℕ) (win : Window w) (falling : Bool) (b : Board) (R : Sound w b) where
   rows-sound : soundRows (b .state .present) (b .state .rows) ≡ true
   unfolding sound
   rows-sound = both (b .state .present || eqb (b .state .greatest) 0) (soundRows (b .state .present) (b .state .rows)) (R .sound) .1
@@ -205,8 +200,8 @@ module _ (w : ℕ) (win : Window w) (falling : Bool) (b : Board) (R : Ready w b)
         rw p (sound-set true (cleared w (b .state .greatest) (v .entered) (b .state .rows)) (v .slot) _ (cleared-sound (v .entered))
         (sound-in _ (row-sound falling content (visited w falling b v) (cellAt (b .pool) (v .slot)) (v .act) (visited-sound v h) z)))
 
-    pub landed-ready : {v : Visit} → Visiting w (b .state .present) (b .state .greatest) v → Shaped (visited w falling b v) → Ready w (landed w falling b v (outcome w falling b v content) .board)
-    landed-ready {v} g z =
+    pub landed-sound : {v : Visit} → Visiting w (b .state .present) (b .state .greatest) v → Shaped (visited w falling b v) → Sound w (landed w falling b v (outcome w falling b v content) .board)
+    landed-sound {v} g z =
         let h = visit-slot w win (b .state .present) (b .state .greatest) g in
         let o = outcome w falling b v content in
         record {

@@ -104,3 +104,9 @@ entered w win false g t d g< t< h =
     let e : w ≡ d = cc in
     let one = at-least w win in
     record { some = omega arith; own = all-enter w win g d (rowOf w t) (omega arith); others = λ q. absurd (omega arith) }
+
+-- a number is inside only where there is a greatest number
+pub inside-present : (w g : ℕ) (p : Bool) (t : ℕ) → standingOf w p g t ≡ Inside → p ≡ true
+unfolding standingOf
+inside-present w g true t e = refl
+inside-present w g false t e = absurd (let z : _≡_ {A = ℕ} 0 1 = cc in omega arith)

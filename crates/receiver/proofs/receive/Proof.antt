@@ -5,7 +5,8 @@ use Rattle.window.specs.Window.{windowSize}
 use Rattle.receiver.specs.Message.{Board, draft02}
 use Rattle.receiver.specs.Receive.{refusal, messagesFrom}
 use Rattle.receiver.specs.declared.Origin.the-variants.{Whole}
-use Rattle.receiver.proofs.Calls.{denied, admitted, refused, treated, admits, replyOf, one-bundle}
+use Rattle.receiver.proofs.Looping.{replyOf, one-bundle}
+use Rattle.receiver.proofs.Refusals.{denied, admitted, refused, treated, admits}
 use Rattle.receiver.proofs.receive.Statement.{statement}
 use Rattle.receiver.proofs.receive.Tie as tie
 

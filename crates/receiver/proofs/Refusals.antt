@@ -1,0 +1,147 @@
+-- Refused calls change nothing, refusals come in document 01's order, and what a call that is not refused has.
+use mathlib.Core.Bool.{Bool, cond, true, false, not, _||_}
+use mathlib.Core.List.{List, [], _∷_}
+use mathlib.Core.Logic.{_⊎_, inl, inr}
+use mathlib.Core.Option.{Option, none, some}
+use mathlib.Core.Path.{_≡_, refl}
+use Prim.Native.Nat.{ℕ, _*_, _≤_, _<_}
+use native.Mathlib.Omega.{arith}
+use lib.Dec.{eqb, ltb}
+use lib.ListN.{length}
+use borrow.Author.Tests.{eqb-true, eqb-false, ltb-false, not-false}
+use Rattle.octets.proofs.Flags.{bool, neither}
+use Rattle.wire.specs.Frame.{checked}
+use Rattle.wire.specs.Message.{faultNumber}
+use Rattle.wire.specs.declared.Checked.{Checked}
+use Rattle.wire.specs.declared.Checked.the-variants as Frame
+use Rattle.wire.specs.declared.Fault.the-variants.{ShortHeader, ReservedFlag, PastFrame, PastMessage, BadContent}
+use Rattle.reassembly.specs.Row.{bundleMax}
+use Rattle.receiver.specs.Message.{Draft, Board}
+use Rattle.receiver.specs.Receive.{frameMax, refusalNumber, frameRefusal, replied, refusal, treat, messagesFrom, receive}
+use Rattle.receiver.specs.Run.{admission}
+use Rattle.receiver.specs.State.{sound}
+use Rattle.receiver.specs.declared.Admission.the-variants.{Admitted, Denied}
+use Rattle.receiver.specs.declared.Answer.the-variants.{Refused}
+use Rattle.receiver.specs.declared.Refusal.{Refusal}
+use Rattle.receiver.specs.declared.Refusal.the-variants.{Malformed, Misplaced}
+
+clash : {A : Type 0} → true ≡ false → A
+clash e = absurd (let z : _≡_ {A = ℕ} 0 1 = cc in omega arith)
+
+-- ---- admission
+
+pub denied : (o : Option Refusal) (q : Refusal) → admission o ≡ Denied q → o ≡ some q
+unfolding admission
+denied none q e = absurd (let z : _≡_ {A = ℕ} 0 1 = cc in omega arith)
+denied (some r) q e = cc
+
+pub admitted : (o : Option Refusal) → admission o ≡ Admitted → o ≡ none
+unfolding admission
+admitted none e = refl
+admitted (some r) e = absurd (let z : _≡_ {A = ℕ} 0 1 = cc in omega arith)
+
+module _ (D : Draft) (w : ℕ) (b : Board) (frame : List ℕ) (place : ℕ) (output : List ℕ) where
+  -- a call that is refused gives back state, pool and output as they were
+  pub refused : (q : Refusal) → refusal D w b frame place output ≡ some q → receive D w b frame place output ≡ record { answer = Refused q; board = b; output = output }
+  unfolding receive replied
+  refused q e = rw e
+
+  pub treated : refusal D w b frame place output ≡ none → receive D w b frame place output ≡ treat D w b (messagesFrom D frame place) output
+  unfolding receive replied
+  treated e = rw e
+
+  -- what a call that is not refused has
+  pub record Admits : Type 0 where
+    pub state : sound (b .state) ≡ true
+    pub pool : length (b .pool) ≡ w * bundleMax
+    pub room : bundleMax ≤ length output
+    pub some : 0 < length frame
+    pub small : length frame ≤ frameMax
+    pub accepted : checked (D .read) frame place ≡ Frame.Accepted
+
+  accepts : (c : Checked) → frameRefusal c ≡ none → c ≡ Frame.Accepted
+  unfolding frameRefusal
+  accepts Frame.Accepted e = refl
+  accepts (Frame.Malformed f p) e = absurd (let z : _≡_ {A = ℕ} 0 1 = cc in omega arith)
+  accepts Frame.Misplaced e = absurd (let z : _≡_ {A = ℕ} 0 1 = cc in omega arith)
+
+  pub admits : refusal D w b frame place output ≡ none → Admits
+  unfolding refusal
+  admits e = go (bool (not (sound (b .state)))) (bool (not (eqb (length (b .pool)) (w * bundleMax)) || ltb (length output) bundleMax)) (bool (eqb (length frame) 0 || ltb frameMax (length frame)))
+    where
+      never : {q : Refusal} → some q ≡ none → Admits
+      never e = absurd (let z : _≡_ {A = ℕ} 0 1 = cc in omega arith)
+
+      go : (not (sound (b .state)) ≡ true) ⊎ (not (sound (b .state)) ≡ false)
+          → ((not (eqb (length (b .pool)) (w * bundleMax)) || ltb (length output) bundleMax) ≡ true) ⊎ ((not (eqb (length (b .pool)) (w * bundleMax)) || ltb (length output) bundleMax) ≡ false)
+          → ((eqb (length frame) 0 || ltb frameMax (length frame)) ≡ true) ⊎ ((eqb (length frame) 0 || ltb frameMax (length frame)) ≡ false) → Admits
+      go (inl x) y z = never (rw x at e)
+      go (inr x) (inl y) z = never (rw (x, y) at e)
+      go (inr x) (inr y) (inl z) = never (rw (x, y, z) at e)
+      go (inr x) (inr y) (inr z) =
+          let p = neither (not (eqb (length (b .pool)) (w * bundleMax))) (ltb (length output) bundleMax) y in
+          let f = neither (eqb (length frame) 0) (ltb frameMax (length frame)) z in
+          record {
+            state = not-false (sound (b .state)) x;
+            pool = eqb-true (length (b .pool)) (w * bundleMax) (not-false (eqb (length (b .pool)) (w * bundleMax)) (p .0));
+            room = ltb-false (length output) bundleMax (p .1);
+            some = omega (arith, eqb-false (length frame) 0 (f .0));
+            small = ltb-false frameMax (length frame) (f .1);
+            accepted = accepts (checked (D .read) frame place) (rw (x, y, z) at e);
+          }
+
+-- ---- the order of the refusals
+
+-- document 01's table: each number, and whether its case holds
+abbrev isFault : ℕ → Checked → Bool
+isFault n Frame.Accepted = false
+isFault n (Frame.Malformed fault at) = eqb (faultNumber fault) n
+isFault n Frame.Misplaced = false
+
+abbrev isMisplaced : Checked → Bool
+isMisplaced Frame.Accepted = false
+isMisplaced (Frame.Malformed fault at) = false
+isMisplaced Frame.Misplaced = true
+
+abbrev frameCases : Checked → List (ℕ × Bool)
+frameCases c = (4, isFault 4 c) ∷ (5, isFault 5 c) ∷ (6, isFault 6 c) ∷ (7, isFault 7 c) ∷ (8, isFault 8 c) ∷ (9, isMisplaced c) ∷ []
+
+-- the first number whose case holds, 0 for none
+unfoldable pub first : List (ℕ × Bool) → ℕ
+first [] = 0
+first (x ∷ xs) = cond (x .1) (x .0) (first xs)
+
+unfoldable pub numberOf : Option Refusal → ℕ
+numberOf none = 0
+numberOf (some q) = refusalNumber q
+
+frame-order : (c : Checked) → numberOf (frameRefusal c) ≡ first (frameCases c)
+unfolding numberOf first frameRefusal
+frame-order Frame.Accepted = refl
+frame-order (Frame.Malformed ShortHeader at) = refl
+frame-order (Frame.Malformed ReservedFlag at) = refl
+frame-order (Frame.Malformed PastFrame at) = refl
+frame-order (Frame.Malformed PastMessage at) = refl
+frame-order (Frame.Malformed BadContent at) = refl
+frame-order Frame.Misplaced = refl
+
+module _ (D : Draft) (w : ℕ) (b : Board) (frame : List ℕ) (place : ℕ) (output : List ℕ) where
+  abbrev pub cases : List (ℕ × Bool)
+  cases =
+      (1, not (sound (b .state)))
+      ∷ (2, not (eqb (length (b .pool)) (w * bundleMax)) || ltb (length output) bundleMax)
+      ∷ (3, eqb (length frame) 0 || ltb frameMax (length frame))
+      ∷ frameCases (checked (D .read) frame place)
+
+  -- the number given is the first of the table whose case holds
+  pub in-order : numberOf (refusal D w b frame place output) ≡ first cases
+  unfolding refusal numberOf first
+  in-order = go (bool (not (sound (b .state)))) (bool (not (eqb (length (b .pool)) (w * bundleMax)) || ltb (length output) bundleMax)) (bool (eqb (length frame) 0 || ltb frameMax (length frame)))
+    where
+      go : (not (sound (b .state)) ≡ true) ⊎ (not (sound (b .state)) ≡ false)
+          → ((not (eqb (length (b .pool)) (w * bundleMax)) || ltb (length output) bundleMax) ≡ true) ⊎ ((not (eqb (length (b .pool)) (w * bundleMax)) || ltb (length output) bundleMax) ≡ false)
+          → ((eqb (length frame) 0 || ltb frameMax (length frame)) ≡ true) ⊎ ((eqb (length frame) 0 || ltb frameMax (length frame)) ≡ false) → numberOf (refusal D w b frame place output) ≡ first cases
+      go (inl x) y z = rw x
+      go (inr x) (inl y) z = rw (x, y)
+      go (inr x) (inr y) (inl z) = rw (x, y, z)
+      go (inr x) (inr y) (inr z) = rw (x, y, z) (frame-order (checked (D .read) frame place))
