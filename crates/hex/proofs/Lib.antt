@@ -1,0 +1,2 @@
+-- What the proof of `encode` uses.
+pub mod Turns
