@@ -2,12 +2,12 @@
 use mathlib.Core.Path.{_≡_, refl, ap, _∙_}
 use mathlib.Core.List.{List, [], _∷_, _++_}
 use Prim.Native.Nat.{ℕ, _+_, _*_, _/_, _%_, _≤_, _<_}
-use native.Mathlib.Numerals.{towards-suc, add-one}
+use native.Mathlib.Numerals.{add-one}
 use native.Mathlib.Omega.{arith}
 use lib.ListN.{length, take, set, getD}
-use lib.Seq.{sets-eq, take-suc, length-take-le}
+use lib.Seq.{take-suc, length-take-le}
 use Rattle.octets.specs.Octets.{put}
-use Rattle.octets.proofs.Put.{put-put}
+use Rattle.octets.proofs.Put.{put-two, put-put}
 use Rattle.hex.specs.Hex.{digit, text}
 
 text-snoc : (xs : List ℕ) (x : ℕ) → text (xs ++ x ∷ []) ≡ text xs ++ digit (x / 16) ∷ digit (x % 16) ∷ []
@@ -19,10 +19,6 @@ pub length-text : (xs : List ℕ) → length (text xs) ≡ 2 * length xs
 unfolding text
 length-text [] = refl
 length-text (x ∷ xs) = omega (arith, length-text xs)
-
-put-two : (l : List ℕ) (at a b : ℕ) → at + 2 ≤ length l → set (set l at a) (at + 1) b ≡ put l at (a ∷ b ∷ [])
-unfolding put
-put-two l at a b h = simp towards-suc (simp towards-suc at (sets-eq (a ∷ b ∷ []) l at h))
 
 pub turn : (octets before now : List ℕ) (i : ℕ) → i < length octets → 2 * length octets ≤ length before → length now ≡ length before → now ≡ put before 0 (text (take i octets))
     → set (set now (2 * i) (digit (getD octets i 0 / 16))) (2 * i + 1) (digit (getD octets i 0 % 16)) ≡ put before 0 (text (take (i + 1) octets))

@@ -1,23 +1,29 @@
 -- Writing at an offset: `put` of specs/Octets.antt.
+--     put-two        two stores are a put
 --     put-four       four stores are a put
 --     put-paste      a finished copy is a put
 --     length-put     a put within a list keeps its length
+--     put-whole      a put of all octets
 --     put-put        a put behind a put is one put of the two joined
 -- Assumes nothing.
 use mathlib.Core.Path.{_≡_, sym, ap, _∙_}
-use mathlib.Core.List.{List, [], _∷_, _++_, append-assoc}
+use mathlib.Core.List.{List, [], _∷_, _++_, append-assoc, append-nil}
 use Prim.Native.Nat.{ℕ, _+_, _≤_, _<_}
 use native.Mathlib.Numerals.{towards-suc, add-one}
-use native.Mathlib.Nat.{add-assoc}
+use native.Mathlib.Nat.{add-assoc, zero-add}
 use native.Mathlib.Omega.{arith}
 use lib.ListN.{length, take, drop, set, getD, length-append, length-take, length-drop}
-use lib.Seq.{sets-eq, paste, paste-suc, take-length, length-take-le, take-at, drop-at, drop-drop}
+use lib.Seq.{sets-eq, paste, paste-suc, take-length, drop-length, length-take-le, take-at, drop-at, drop-drop}
 use Rattle.octets.specs.Octets.{put}
 
 pub put-four : (l : List ℕ) (at a b c d : ℕ) → at + 4 ≤ length l
     → set (set (set (set l at a) (at + 1) b) (at + 2) c) (at + 3) d ≡ put l at (a ∷ b ∷ c ∷ d ∷ [])
 unfolding put
 put-four l at a b c d h = simp towards-suc (simp towards-suc at (sets-eq (a ∷ b ∷ c ∷ d ∷ []) l at h))
+
+pub put-two : (l : List ℕ) (at a b : ℕ) → at + 2 ≤ length l → set (set l at a) (at + 1) b ≡ put l at (a ∷ b ∷ [])
+unfolding put
+put-two l at a b h = simp towards-suc (simp towards-suc at (sets-eq (a ∷ b ∷ []) l at h))
 
 pub put-paste : (d : List ℕ) (at : ℕ) (s : List ℕ) → paste d at s (length s) ≡ put d at s
 unfolding put
@@ -26,6 +32,10 @@ put-paste d at s = ap (λ (r : List ℕ). take at d ++ r ++ drop (at + length s)
 pub length-put : (d : List ℕ) (at : ℕ) (s : List ℕ) → at + length s ≤ length d → length (put d at s) ≡ length d
 unfolding put
 length-put d at s h = simp (length-append, length-take, length-drop) (omega arith)
+
+pub put-whole : (d s : List ℕ) → length s ≡ length d → put d 0 s ≡ s
+unfolding put
+put-whole d s e = rw (e, zero-add (length d), drop-length d, append-nil s)
 
 -- a turn of a loop that copies s to the place `at`
 pub paste-turn : (d₀ d : List ℕ) (at : ℕ) (s : List ℕ) (j : ℕ) → d ≡ paste d₀ at s j → at + j < length d₀ → j < length s

@@ -11,6 +11,14 @@ number xs = getD xs 0 0 * 16777216 + getD xs 1 0 * 65536 + getD xs 2 0 * 256 + g
 unfoldable pub be32 : ℕ → List ℕ
 be32 n = n / 16777216 ∷ n / 65536 % 256 ∷ n / 256 % 256 ∷ n % 256 ∷ []
 
+-- the number of 16 bits at the head
+unfoldable pub number16 : List ℕ → ℕ
+number16 xs = getD xs 0 0 * 256 + getD xs 1 0
+
+-- the two octets of a number below 2 ^ 16
+unfoldable pub be16 : ℕ → List ℕ
+be16 n = n / 256 % 256 ∷ n % 256 ∷ []
+
 -- the octets vs from `at` on; all other octets of d stay
 unfoldable pub put : List ℕ → ℕ → List ℕ → List ℕ
 put d at vs = take at d ++ vs ++ drop (at + length vs) d

@@ -3,7 +3,7 @@ ghost use mathlib.Core.Path.{_≡_};
 ghost use mathlib.Core.List.{[], _∷_};
 ghost use Prim.Native.Nat.{_+_, _-_, _≤_, _<_};
 ghost use lib.ListN.{length, drop, replicate};
-ghost use Rattle.octets.specs.Octets.{number, be32, put};
+ghost use Rattle.octets.specs.Octets.{number, number16, be32, be16, put};
 
 pub fn octet(x: u8) -> u32
     ensures { λ r. ⌜ (r ≡ x) × (r < 256) ⌝ }
@@ -15,6 +15,20 @@ pub fn octet_size(x: u8) -> usize
     ensures { λ r. ⌜ (r ≡ x) × (r < 256) ⌝ }
 {
     x as usize
+}
+
+pub fn octet16(x: u8) -> u16
+    ensures { λ r. ⌜ (r ≡ x) × (r < 256) ⌝ }
+{
+    x as u16
+}
+
+// The number of 16 bits at a position.
+pub fn number16_at(s: &[u8], at: usize) -> u16
+    requires { ⌜ at + 2 ≤ length (now s) ⌝ }
+    ensures { λ r. ⌜ r ≡ number16 (drop at (now (s .entry))) ⌝ }
+{
+    octet16(s[at]) * 256 + octet16(s[at + 1])
 }
 
 // The number of 32 bits at a position.
@@ -46,6 +60,15 @@ pub fn put_number(to: &mut [u8], at: usize, n: u32)
     let c = (n / 256 % 256) as u8;
     let d = (n % 256) as u8;
     put_four(to, at, a, b, c, d);
+}
+
+// A number of 16 bits, from `at` on.
+pub fn put_number16(to: &mut [u8], at: usize, n: u16)
+    requires { ⌜ at + 2 ≤ length (now to) ⌝ }
+    ensures { λ _. ⌜ now (to .exit) ≡ put (now (to .entry)) at (be16 n) ⌝ }
+{
+    to[at] = (n / 256 % 256) as u8;
+    to[at + 1] = (n % 256) as u8;
 }
 
 // All of src, from `at` on.

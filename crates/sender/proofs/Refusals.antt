@@ -16,7 +16,7 @@ use Rattle.sender.specs.declared.State.{State}
 use Rattle.sender.specs.declared.Refusal.the-variants.{Unsound, WrongBuffer, BundleSize, OtherLength, NoTransfer, FrameSize}
 use Rattle.sender.specs.declared.Answer.{Answer}
 use Rattle.sender.specs.declared.Answer.the-variants.{Placed, PlacedReady, Ready, Nothing, Refused}
-use Rattle.sender.specs.Answers.{Reply, placed, placedAndReady, ready, nothing, refused, refusalNumber, reply, Outcome, Case, refusal, unless, firstOf, isRefusal, replyNumber, StartReply, startNumber}
+use Rattle.sender.specs.Answers.{Reply, placed, placedAndReady, ready, nothing, refused, reply, Outcome, Case, refusal, unless, firstOf, isRefusal, replyNumber, StartReply, startNumber}
 use Rattle.sender.specs.Sound.{sized}
 use Rattle.sender.specs.Calls.{ended, advanced, added, closed, placing, placeCases, place, cancelCases, cancel, flushCases, flush, start}
 use Rattle.sender.proofs.Ways.{placing-ways}
@@ -119,7 +119,7 @@ answerOf (refused n) =
     Refused (cond (eqb n 1) Unsound (cond (eqb n 10) WrongBuffer (cond (eqb n 11) BundleSize (cond (eqb n 12) OtherLength (cond (eqb n 13) NoTransfer FrameSize)))))
 
 answer-back : (a : Answer) → answerOf (reply a) ≡ a
-unfolding reply refusalNumber answerOf
+unfolding reply answerOf
 answer-back Placed = refl
 answer-back PlacedReady = refl
 answer-back Ready = refl

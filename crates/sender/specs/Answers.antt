@@ -23,7 +23,7 @@ pub data StartReply : Type 0 where
   made : State → StartReply
   denied : ℕ → StartReply
 
-unfoldable pub refusalNumber : Refusal → ℕ
+abbrev pub refusalNumber : Refusal → ℕ
 refusalNumber Unsound = 1
 refusalNumber WrongBuffer = 10
 refusalNumber BundleSize = 11

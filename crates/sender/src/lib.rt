@@ -4,7 +4,7 @@ ghost use mathlib.Core.List.{List};
 ghost use Prim.Native.Nat.{ℕ, _+_, _≤_, _<_};
 ghost use lib.ListN.{length};
 ghost use Rattle.wire.specs.Message as Message;
-ghost use Rattle.sender.specs.Answers.{startReply, outcome};
+ghost use Rattle.sender.specs.Answers.{startReply, outcome, refusalNumber};
 ghost use Rattle.sender.specs.Sound as Sound;
 ghost use Rattle.sender.specs.Calls as Calls;
 
@@ -49,6 +49,20 @@ pub struct Sent {
 pub enum Started {
     Made(State),
     Refused(Refusal),
+}
+
+// Document 01's number of a refusal.
+pub fn refusal_number(refusal: Refusal) -> u32
+    ensures { λ r. ⌜ r ≡ refusalNumber refusal ⌝ }
+{
+    match refusal {
+        Refusal::Unsound => 1,
+        Refusal::WrongBuffer => 10,
+        Refusal::BundleSize => 11,
+        Refusal::OtherLength => 12,
+        Refusal::NoTransfer => 13,
+        Refusal::FrameSize => 14,
+    }
 }
 
 fn sized(size: usize) -> bool

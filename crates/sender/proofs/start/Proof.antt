@@ -1,5 +1,5 @@
 -- `sender::start` meets its contract.
-use Rattle.sender.specs.Answers.{refusalNumber, startReply}
+use Rattle.sender.specs.Answers.{startReply}
 use Rattle.sender.specs.Calls.{start}
 use borrow.Author.Needs.{needs}
 use Rattle.sender.proofs.start.Statement.{statement}
@@ -13,7 +13,7 @@ unfolding start startReply
 returns c = rw (← c .before .sized .ensures, c .if1 .taken)
 
 returns-2 : tie.Need-returns-2
-unfolding start startReply refusalNumber
+unfolding start startReply
 returns-2 c = rw (← c .before .sized .ensures, c .if1 .left)
 
 pub start-spec : {M : Type 1} → statement M

@@ -1,0 +1,119 @@
+-- A receiver's state that was written to an image reads back, so a host can keep the image over a restart.
+use mathlib.Core.Bool.{Bool, true, false}
+use mathlib.Core.List.{List, [], _∷_, _++_, append-assoc, append-nil}
+use mathlib.Core.Path.{_≡_, refl}
+use Prim.Native.Nat.{ℕ, zero, suc, _*_, _%_, _<_, _^_}
+use native.Mathlib.Omega.{arith}
+use lib.Dec.{eqb, leb}
+use lib.ListN.{length, getD, take, drop}
+use lib.Seq.{take-at, drop-at}
+use borrow.Author.Tests.{eq-eqb}
+use Rattle.octets.specs.Octets.{be16, be32}
+use Rattle.octets.proofs.Flags.{and}
+use Rattle.octets.proofs.Numbers.{number-be32, number16-be16}
+use Rattle.window.specs.Window.{windowSize}
+use Rattle.reassembly.specs.declared.Phase.{Phase}
+use Rattle.reassembly.specs.declared.Phase.the-variants.{Free, Open, Done, Cancelled, Abandoned}
+use Rattle.reassembly.specs.declared.Row.{Row}
+use Rattle.reassembly.proofs.Kept.{Shaped}
+use Rattle.receiver.specs.declared.State.{State}
+use Rattle.board.specs.Receiver.{imageSize, rowSize, phaseOf, isRow, pairs, rowOf, areRows, rowsOf, isImage, stateOf, phaseCode, flag, spread, rowImage, rowsImage, imageOf}
+use Rattle.board.proofs.Rows.{length-row}
+use Rattle.board.proofs.Series.{length-items}
+
+-- a row whose numbers fit their octets
+pub record RowFits (r : Row) : Type 0 where
+  pub shaped : Shaped r
+  pub held : r .held < 256
+  pub lengths : (k : ℕ) → k < length (r .lengths) → getD (r .lengths) k 0 < 2 ^ 16
+
+-- a state whose numbers fit their octets
+pub record StateFits (s : State) : Type 0 where
+  pub full : length (s .rows) ≡ windowSize
+  pub greatest : s .greatest < 2 ^ 32
+  pub rows : (k : ℕ) (z : Row) → k < length (s .rows) → RowFits (getD (s .rows) k z)
+
+phase-back : (p : Phase) → phaseOf (phaseCode p) ≡ p
+unfolding phaseOf
+phase-back Free = refl
+phase-back Open = refl
+phase-back Done = refl
+phase-back Cancelled = refl
+phase-back Abandoned = refl
+
+phase-low : (p : Phase) → leb (phaseCode p) 4 ≡ true
+phase-low Free = refl
+phase-low Open = refl
+phase-low Done = refl
+phase-low Cancelled = refl
+phase-low Abandoned = refl
+
+pub flag-back : (b : Bool) → eqb (flag b) 1 ≡ b
+flag-back true = refl
+flag-back false = refl
+
+pub flag-low : (b : Bool) → leb (flag b) 1 ≡ true
+flag-low true = refl
+flag-low false = refl
+
+pairs-back : (ns xs : List ℕ) (n : ℕ) → length ns ≡ n → ((k : ℕ) → k < length ns → getD ns k 0 < 2 ^ 16) → pairs n (spread ns ++ xs) ≡ ns
+unfolding pairs spread be16
+pairs-back [] xs zero e low = refl
+pairs-back [] xs (suc n) e low = absurd (omega arith)
+pairs-back (x ∷ ns) xs zero e low = absurd (omega arith)
+pairs-back (x ∷ ns) xs (suc n) e low =
+    rw (number16-be16 x (spread ns ++ xs) (low 0 (omega arith)), pairs-back ns xs n (omega arith) (λ k h. low (suc k) (omega arith)))
+
+-- ---- rows, with octets behind them
+
+row-back : (r : Row) (xs : List ℕ) → RowFits r → rowOf (rowImage r ++ xs) ≡ r
+unfolding rowOf rowImage
+row-back r xs f =
+    let held : r .held % 256 ≡ r .held = omega (arith, f .held) in
+    let indexes : take 64 (r .indexes ++ spread (r .lengths) ++ xs) ≡ r .indexes = rw append-assoc (take-at (r .indexes) (spread (r .lengths) ++ xs) 64 (f .shaped .indexes64)) in
+    let rest : drop 64 (r .indexes ++ spread (r .lengths) ++ xs) ≡ spread (r .lengths) ++ xs = rw append-assoc (drop-at (r .indexes) (spread (r .lengths) ++ xs) 64 (f .shaped .indexes64)) in
+    rw (phase-back (r .phase), flag-back (r .known), held, indexes, rest, pairs-back (r .lengths) xs 64 (f .shaped .lengths64) (f .lengths))
+
+row-is : (r : Row) (xs : List ℕ) → isRow (rowImage r ++ xs) ≡ true
+unfolding isRow rowImage
+row-is r xs = and (leb (phaseCode (r .phase)) 4) (leb (flag (r .known)) 1) (phase-low (r .phase)) (flag-low (r .known))
+
+module _ (xs : List ℕ) where
+  past-row : (r : Row) (rs : List Row) → Shaped r → drop rowSize (rowImage r ++ rowsImage rs ++ xs) ≡ rowsImage rs ++ xs
+  past-row r rs z = rw append-assoc (drop-at (rowImage r) (rowsImage rs ++ xs) rowSize (length-row r z))
+
+  rows-back : (rs : List Row) (n : ℕ) → length rs ≡ n → ((k : ℕ) (z : Row) → k < length rs → RowFits (getD rs k z)) → rowsOf n (rowsImage rs ++ xs) ≡ rs
+  unfolding rowsOf rowsImage
+  rows-back [] zero e each = refl
+  rows-back [] (suc n) e each = absurd (omega arith)
+  rows-back (r ∷ rs) zero e each = absurd (omega arith)
+  rows-back (r ∷ rs) (suc n) e each =
+      let f = each 0 r (omega arith) in
+      rw (past-row r rs (f .shaped), append-assoc (rowImage r) (rowsImage rs) xs, row-back r (rowsImage rs ++ xs) f, rows-back rs n (omega arith) (λ k z h. each (suc k) z (omega arith)))
+
+  are-rows-back : (rs : List Row) (n : ℕ) → length rs ≡ n → ((k : ℕ) (z : Row) → k < length rs → RowFits (getD rs k z)) → areRows n (rowsImage rs ++ xs) ≡ true
+  unfolding areRows rowsImage
+  are-rows-back [] zero e each = refl
+  are-rows-back [] (suc n) e each = absurd (omega arith)
+  are-rows-back (r ∷ rs) zero e each = absurd (omega arith)
+  are-rows-back (r ∷ rs) (suc n) e each =
+      rw (past-row r rs (each 0 r (omega arith) .shaped), append-assoc (rowImage r) (rowsImage rs) xs, row-is r (rowsImage rs ++ xs)) (are-rows-back rs n (omega arith) (λ k z h. each (suc k) z (omega arith)))
+
+length-rows : (rs : List Row) → ((k : ℕ) (z : Row) → k < length rs → RowFits (getD rs k z)) → length (rowsImage rs) ≡ length rs * rowSize
+unfolding rowsImage
+length-rows rs each = length-items rowImage rowsImage refl (λ x xs. refl) rowSize rs (λ k z h. length-row (getD rs k z) (each k z h .shaped))
+
+-- ---- the state
+
+pub state-back : (s : State) → StateFits s → stateOf (imageOf s) ≡ s
+unfolding stateOf imageOf be32
+state-back s f =
+    let rows : rowsOf windowSize (rowsImage (s .rows)) ≡ s .rows = rw append-nil at (rows-back [] (s .rows) windowSize (f .full) (f .rows)) in
+    rw (flag-back (s .present), number-be32 (s .greatest) (rowsImage (s .rows)) (f .greatest), rows)
+
+pub image-of-is : (s : State) → StateFits s → isImage (imageOf s) ≡ true
+unfolding isImage imageOf be32
+image-of-is s f =
+    let rows : areRows windowSize (rowsImage (s .rows)) ≡ true = rw append-nil at (are-rows-back [] (s .rows) windowSize (f .full) (f .rows)) in
+    let size : length (imageOf s) ≡ imageSize = omega (arith, length-rows (s .rows) (f .rows), f .full) in
+    rw (eq-eqb _ _ size, flag-low (s .present), rows)

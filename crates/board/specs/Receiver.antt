@@ -1,0 +1,154 @@
+-- The receiver for hosts in other languages: its state as an image of 3,144 octets, its answer as a number and an array of four numbers.
+-- Octet 0 of the image is 1 if G is present, 1 to 3 are zero, 4 to 7 are G; then 196 octets for each row: phase, whether the final index
+-- is known, the final index, how many pieces are held, 64 indexes, 64 lengths of two octets. Numbers are big-endian.
+use mathlib.Core.Bool.{Bool, true, false, cond, _&&_}
+use mathlib.Core.Option.{Option, none, some}
+use mathlib.Core.List.{List, [], _∷_, _++_}
+use Prim.Native.Nat.{ℕ, zero, suc, _+_, _*_, _/_, _%_, _^_}
+use lib.ListN.{length, getD, take, drop, set}
+use lib.Dec.{eqb, leb}
+use Rattle.octets.specs.Octets.{number, number16, be32, be16}
+use Rattle.window.specs.Window.{windowSize}
+use Rattle.reassembly.specs.declared.Row.{Row}
+use Rattle.reassembly.specs.declared.Phase.{Phase}
+use Rattle.reassembly.specs.declared.Phase.the-variants.{Free, Open, Done, Cancelled, Abandoned}
+use Rattle.receiver.specs.declared.State.{State}
+use Rattle.receiver.specs.declared.Origin.{Origin}
+use Rattle.receiver.specs.declared.Origin.the-variants.{Whole, Transfer}
+use Rattle.receiver.specs.declared.Answer.{Answer}
+use Rattle.receiver.specs.declared.Answer.the-variants.{Delivered, Finished, Refused}
+use Rattle.receiver.specs.State.{fresh}
+use Rattle.receiver.specs.Message.{draft02, Board}
+use Rattle.receiver.specs.Receive.{refusalNumber, refusalPlace, Reply, receive}
+
+abbrev pub imageSize : ℕ
+imageSize = 3144
+
+abbrev pub rowSize : ℕ
+rowSize = 196
+
+-- ---- from octets
+
+-- an octet for a phase is 0 to 4, one for a flag 0 or 1
+unfoldable pub phaseOf : ℕ → Phase
+phaseOf n = cond (eqb n 1) Open (cond (eqb n 2) Done (cond (eqb n 3) Cancelled (cond (eqb n 4) Abandoned Free)))
+
+unfoldable pub isRow : List ℕ → Bool
+isRow xs = leb (getD xs 0 0) 4 && leb (getD xs 1 0) 1
+
+-- the first n numbers of two octets
+unfoldable pub pairs : ℕ → List ℕ → List ℕ
+pairs zero xs = []
+pairs (suc n) xs = number16 xs ∷ pairs n (drop 2 xs)
+
+unfoldable pub rowOf : List ℕ → Row
+rowOf xs =
+    record {
+      phase = phaseOf (getD xs 0 0);
+      known = eqb (getD xs 1 0) 1;
+      last = getD xs 2 0;
+      held = getD xs 3 0;
+      indexes = take 64 (drop 4 xs);
+      lengths = pairs 64 (drop 68 xs);
+    }
+
+unfoldable pub areRows : ℕ → List ℕ → Bool
+areRows zero xs = true
+areRows (suc n) xs = isRow xs && areRows n (drop rowSize xs)
+
+unfoldable pub rowsOf : ℕ → List ℕ → List Row
+rowsOf zero xs = []
+rowsOf (suc n) xs = rowOf xs ∷ rowsOf n (drop rowSize xs)
+
+-- whether octets are the image of a state, sound or not
+unfoldable pub isImage : List ℕ → Bool
+isImage xs =
+    eqb (length xs) imageSize
+    && (leb (getD xs 0 0) 1 && eqb (getD xs 1 0) 0 && eqb (getD xs 2 0) 0 && eqb (getD xs 3 0) 0)
+    && areRows windowSize (drop 8 xs)
+
+unfoldable pub stateOf : List ℕ → State
+stateOf xs = record { present = eqb (getD xs 0 0) 1; greatest = number (drop 4 xs); rows = rowsOf windowSize (drop 8 xs) }
+
+-- ---- to octets
+
+abbrev pub phaseCode : Phase → ℕ
+phaseCode Free = 0
+phaseCode Open = 1
+phaseCode Done = 2
+phaseCode Cancelled = 3
+phaseCode Abandoned = 4
+
+abbrev pub flag : Bool → ℕ
+flag b = cond b 1 0
+
+unfoldable pub spread : List ℕ → List ℕ
+spread [] = []
+spread (n ∷ ns) = be16 n ++ spread ns
+
+-- a sound row holds at most 64 pieces
+unfoldable pub rowImage : Row → List ℕ
+rowImage r = phaseCode (r .phase) ∷ flag (r .known) ∷ r .last ∷ r .held % 256 ∷ r .indexes ++ spread (r .lengths)
+
+unfoldable pub rowsImage : List Row → List ℕ
+rowsImage [] = []
+rowsImage (r ∷ rs) = rowImage r ++ rowsImage rs
+
+unfoldable pub imageOf : State → List ℕ
+imageOf s = flag (s .present) ∷ 0 ∷ 0 ∷ 0 ∷ be32 (s .greatest) ++ rowsImage (s .rows)
+
+-- ---- the calls
+
+-- what a call returns, 0 or the refusal's number, and what it leaves of the image, the pool, the output and the result
+pub record Exported : Type 0 where
+  pub status : ℕ
+  pub image : List ℕ
+  pub pool : List ℕ
+  pub output : List ℕ
+  pub result : List ℕ
+
+abbrev pub status : Answer → ℕ
+status (Delivered length next origin) = 0
+status Finished = 0
+status (Refused refusal) = refusalNumber refusal
+
+-- the transfer number, or 2 ^ 32 for none
+abbrev pub originNumber : Origin → ℕ
+originNumber Whole = 2 ^ 32
+originNumber (Transfer t) = t
+
+unfoldable pub named : Option ℕ → List ℕ → List ℕ
+named none result = result
+named (some place) result = set result 2 place
+
+-- 1, length, next place and number for a bundle; 0 for Finished; the place that a refusal names. Other entries stay.
+unfoldable pub report : Answer → List ℕ → List ℕ
+report (Delivered length next origin) result = 1 ∷ length ∷ next ∷ originNumber origin ∷ []
+report Finished result = set result 0 0
+report (Refused refusal) result = named (refusalPlace refusal) result
+
+unfoldable pub kept : Answer → List ℕ → State → List ℕ
+kept (Delivered length next origin) image state = imageOf state
+kept Finished image state = imageOf state
+kept (Refused refusal) image state = image
+
+unfoldable pub exported : Reply → List ℕ → List ℕ → Exported
+exported r image result =
+    record {
+      status = status (r .answer);
+      image = kept (r .answer) image (r .board .state);
+      pool = r .board .pool;
+      output = r .output;
+      result = report (r .answer) result;
+    }
+
+-- octets that are no image are refused as an unsound state
+unfoldable pub received : List ℕ → List ℕ → List ℕ → ℕ → List ℕ → List ℕ → Exported
+received image pool frame place output result =
+    cond (isImage image)
+    (exported (receive draft02 windowSize (record { state = stateOf image; pool = pool }) frame place output) image result)
+    (record { status = 1; image = image; pool = pool; output = output; result = result })
+
+-- a start needs the image's length alone
+unfoldable pub started : List ℕ → ℕ × List ℕ
+started image = cond (eqb (length image) imageSize) (0, imageOf (fresh windowSize)) (1, image)

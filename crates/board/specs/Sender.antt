@@ -1,0 +1,90 @@
+-- The sender for hosts in other languages: its state as an image of 24 octets, its answer as a number and the first entry of an array.
+-- The image: frame size (2 octets), fill (2), next number (4), whether a transfer is begun (1), three zeros, its number (4), its bundle's
+-- length (2), octets placed (2), next index (4). Numbers are big-endian.
+use mathlib.Core.Bool.{Bool, cond, _&&_}
+use mathlib.Core.List.{List, [], _∷_, _++_}
+use Prim.Native.Nat.{ℕ}
+use lib.ListN.{length, getD, drop, set}
+use lib.Dec.{eqb, leb}
+use Rattle.octets.specs.Octets.{number, number16, be32, be16}
+use Rattle.sender.specs.declared.State.{State}
+use Rattle.sender.specs.Answers.{Reply, placed, placedAndReady, ready, nothing, refused, StartReply, made, denied, Outcome}
+use Rattle.sender.specs.Calls as Calls
+use Rattle.board.specs.Receiver.{flag}
+
+abbrev pub imageSize : ℕ
+imageSize = 24
+
+unfoldable pub isImage : List ℕ → Bool
+isImage xs = eqb (length xs) imageSize && (leb (getD xs 8 0) 1 && eqb (getD xs 9 0) 0 && eqb (getD xs 10 0) 0 && eqb (getD xs 11 0) 0)
+
+unfoldable pub stateOf : List ℕ → State
+stateOf xs =
+    record {
+      size = number16 xs;
+      fill = number16 (drop 2 xs);
+      next = number (drop 4 xs);
+      begun = eqb (getD xs 8 0) 1;
+      number = number (drop 12 xs);
+      length = number16 (drop 16 xs);
+      placed = number16 (drop 18 xs);
+      index = number (drop 20 xs);
+    }
+
+unfoldable pub imageOf : State → List ℕ
+imageOf s =
+    be16 (s .size) ++ be16 (s .fill) ++ be32 (s .next) ++ (flag (s .begun) ∷ 0 ∷ 0 ∷ 0 ∷ []) ++ be32 (s .number) ++ be16 (s .length) ++ be16 (s .placed)
+    ++ be32 (s .index)
+
+-- what a call returns, 0 or the refusal's number, and what it leaves of the image, the frame buffer and the result
+pub record Exported : Type 0 where
+  pub status : ℕ
+  pub image : List ℕ
+  pub frame : List ℕ
+  pub result : List ℕ
+
+unfoldable pub status : Reply → ℕ
+status placed = 0
+status placedAndReady = 0
+status ready = 0
+status nothing = 0
+status (refused n) = n
+
+-- 0 Placed, 1 Placed and ready, 2 Ready, 3 Nothing; a refusal leaves the result
+unfoldable pub report : Reply → List ℕ → List ℕ
+report placed result = set result 0 0
+report placedAndReady result = set result 0 1
+report ready result = set result 0 2
+report nothing result = set result 0 3
+report (refused n) result = result
+
+unfoldable pub kept : Reply → List ℕ → State → List ℕ
+kept placed image state = imageOf state
+kept placedAndReady image state = imageOf state
+kept ready image state = imageOf state
+kept nothing image state = imageOf state
+kept (refused n) image state = image
+
+unfoldable pub exported : Outcome → List ℕ → List ℕ → Exported
+exported o image result = record { status = status (o .answer); image = kept (o .answer) image (o .state); frame = o .frame; result = report (o .answer) result }
+
+-- octets that are no image are refused as an unsound state
+unfoldable pub unlessImage : List ℕ → List ℕ → List ℕ → Exported → Exported
+unlessImage image frame result e = cond (isImage image) e (record { status = 1; image = image; frame = frame; result = result })
+
+unfoldable pub placedBy : List ℕ → List ℕ → List ℕ → List ℕ → Exported
+placedBy image bundle frame result = unlessImage image frame result (exported (Calls.place (stateOf image) bundle frame) image result)
+
+unfoldable pub cancelledBy : List ℕ → List ℕ → List ℕ → Exported
+cancelledBy image frame result = unlessImage image frame result (exported (Calls.cancel (stateOf image) frame) image result)
+
+unfoldable pub flushedBy : List ℕ → List ℕ → List ℕ → Exported
+flushedBy image frame result = unlessImage image frame result (exported (Calls.flush (stateOf image) frame) image result)
+
+unfoldable pub startedWith : StartReply → List ℕ → ℕ × List ℕ
+startedWith (made s) image = (0, imageOf s)
+startedWith (denied n) image = (n, image)
+
+-- an image of another length is refused before the frame size
+unfoldable pub started : List ℕ → ℕ → ℕ → ℕ × List ℕ
+started image size first = cond (eqb (length image) imageSize) (startedWith (Calls.start size first) image) (1, image)

@@ -1,0 +1,344 @@
+//! Time per call of the exported interface and of the model, on the same input.
+//!
+//!     bench [ROUNDS]
+//!
+//! Each round times the three sides one after the other, in changing order; the table gives the
+//! median time per call, and the median over the rounds of the ratios within a round.
+
+use std::hint::black_box;
+use std::time::Instant;
+
+use harness::ffi::{self, MIN_OUTPUT, POOL, RECEIVER_IMAGE, SENDER_IMAGE};
+use harness::generate::{self, BUNDLE};
+use harness::model::{interface, receiver, sender};
+use harness::random::Random;
+
+const ROUNDS: usize = 31;
+const ROUND_SECONDS: f64 = 0.004;
+const FRAME: usize = 2048;
+
+/// What a run did, so that the sides can be compared and the time be divided.
+#[derive(Clone, Copy, Debug, Default, PartialEq, Eq)]
+struct Work {
+    calls: u64,
+    octets: u64,
+    digest: u64,
+}
+
+impl Work {
+    fn bundle(&mut self, octets: &[u8]) {
+        self.octets += octets.len() as u64;
+        let ends = [octets.first(), octets.last()];
+        for &octet in ends.into_iter().flatten() {
+            self.digest = self.digest.wrapping_mul(31).wrapping_add(octet.into());
+        }
+    }
+}
+
+struct Workload<'a> {
+    name: &'static str,
+    exported: Box<dyn FnMut() -> Work + 'a>,
+    own_state: Box<dyn FnMut() -> Work + 'a>,
+    image: Box<dyn FnMut() -> Work + 'a>,
+}
+
+fn main() {
+    let rounds = std::env::args()
+        .nth(1)
+        .map_or(ROUNDS, |rounds| rounds.parse().expect("number of rounds"));
+    let mut random = Random::new(1);
+    let fresh = start_image();
+    let full = full_image(&mut random);
+    let small_bundles = small_bundle_frames(&mut random);
+    let small_pieces = small_piece_frames(&mut random);
+    let large_pieces = large_piece_frames(&mut random);
+    let passed = passed_frames(&mut random);
+    let hints = hint_frames(&mut random);
+    let octet = vec![vec![0]; 32];
+    let large = bundles(&mut random, 16, 4096);
+    let small = bundles(&mut random, 512, 60);
+    let tiny = bundles(&mut random, 1024, 8);
+    let workloads = [
+        receiving("receive: bundles of 8 octets", &fresh, &small_bundles),
+        receiving(
+            "receive: pieces of 4 octets, 8 transfers mixed",
+            &fresh,
+            &small_pieces,
+        ),
+        receiving("receive: pieces of 2,036 octets", &fresh, &large_pieces),
+        receiving("receive: paddings and unknown types", &fresh, &passed),
+        receiving("receive: chains of hints", &fresh, &hints),
+        receiving("receive: one zero octet, all rows Free", &fresh, &octet),
+        receiving(
+            "receive: one zero octet, all rows with 63 pieces",
+            &full,
+            &octet,
+        ),
+        sending("place: 4,096 octets, frames of 2,048", 2048, &large),
+        sending("place: 4,096 octets, frames of 512", 512, &large),
+        sending("place: 60 octets, frames of 2,048", 2048, &small),
+        sending("place: 8 octets, frames of 128", 128, &tiny),
+    ];
+    println!("{rounds} rounds; exported interface against the model in Rust (\"Rust\")");
+    println!();
+    println!(
+        "| workload | calls | exported, ns/call | Rust, own state, ns/call | Rust, image, ns/call \
+         | ratio to own state | ratio to image |"
+    );
+    println!("|---|---:|---:|---:|---:|---:|---:|");
+    for workload in workloads {
+        measure(workload, rounds);
+    }
+}
+
+fn measure(mut workload: Workload, rounds: usize) {
+    let work = (workload.exported)();
+    assert!(work.calls > 0, "{}: no call", workload.name);
+    assert_eq!(work, (workload.own_state)(), "{}", workload.name);
+    assert_eq!(work, (workload.image)(), "{}", workload.name);
+    let sides = [
+        &mut workload.exported,
+        &mut workload.own_state,
+        &mut workload.image,
+    ];
+    let begin = Instant::now();
+    black_box(sides[1]());
+    let once = begin.elapsed().as_secs_f64().max(1e-7);
+    let repeat = (ROUND_SECONDS / once).ceil().max(1.0) as u32;
+    let calls = work.calls as f64 * f64::from(repeat);
+    let mut times = [(); 3].map(|_| Vec::with_capacity(rounds));
+    for round in 0..rounds {
+        for turn in 0..3 {
+            let side = (round + turn) % 3;
+            let begin = Instant::now();
+            for _ in 0..repeat {
+                black_box(sides[side]());
+            }
+            times[side].push(begin.elapsed().as_nanos() as f64 / calls);
+        }
+    }
+    let ratios = |other: usize| {
+        let pairs = times[0].iter().zip(&times[other]);
+        median(pairs.map(|(exported, rust)| exported / rust).collect())
+    };
+    println!(
+        "| {} | {} | {:.0} | {:.0} | {:.0} | {:.2} | {:.2} |",
+        workload.name,
+        work.calls,
+        median(times[0].clone()),
+        median(times[1].clone()),
+        median(times[2].clone()),
+        ratios(1),
+        ratios(2)
+    );
+}
+
+fn median(mut numbers: Vec<f64>) -> f64 {
+    numbers.sort_by(f64::total_cmp);
+    numbers[numbers.len() / 2]
+}
+
+fn start_image() -> [u8; RECEIVER_IMAGE] {
+    let mut image = [0; RECEIVER_IMAGE];
+    assert_eq!(ffi::receiver_start(&mut image), 0);
+    image
+}
+
+/// All rows Open with as many pieces as they can hold while one is missing.
+fn full_image(random: &mut Random) -> [u8; RECEIVER_IMAGE] {
+    let mut state = receiver::State::start();
+    state.greatest = Some(100);
+    for row in &mut state.rows {
+        let mut indexes: Vec<u8> = (1..64).collect();
+        random.shuffle(&mut indexes);
+        row.phase = receiver::Phase::Open;
+        row.last = Some(63);
+        row.held = 63;
+        row.index[..63].copy_from_slice(&indexes);
+        row.length[..63].fill(60);
+    }
+    assert!(state.is_sound());
+    let mut image = [0; RECEIVER_IMAGE];
+    state.encode(&mut image);
+    image
+}
+
+fn receiving<'a>(
+    name: &'static str,
+    start: &'a [u8; RECEIVER_IMAGE],
+    frames: &'a [Vec<u8>],
+) -> Workload<'a> {
+    type Call = fn(&mut [u8], &mut [u8], &[u8], u64, &mut [u8], &mut [u64; 4]) -> u32;
+    let through_image = move |call: Call| {
+        let mut pool = vec![0; POOL];
+        let mut output = vec![0; MIN_OUTPUT];
+        move || {
+            let mut work = Work::default();
+            let mut image = *start;
+            for frame in frames {
+                let mut place = 0;
+                loop {
+                    let mut result = [0; 4];
+                    let number = call(
+                        &mut image,
+                        &mut pool,
+                        frame,
+                        place,
+                        &mut output,
+                        &mut result,
+                    );
+                    assert_eq!(number, 0);
+                    work.calls += 1;
+                    if result[0] == 0 {
+                        break;
+                    }
+                    work.bundle(&output[..result[1] as usize]);
+                    place = result[2];
+                }
+            }
+            work
+        }
+    };
+    let state = receiver::State::decode(start).expect("a state");
+    let mut pool = vec![0; POOL];
+    let mut output = vec![0; MIN_OUTPUT];
+    let own_state = move || {
+        let mut work = Work::default();
+        let mut state = state.clone();
+        for frame in frames {
+            let mut place = 0;
+            loop {
+                let answer =
+                    receiver::receive(&mut state, &mut pool, frame, place, &mut output, &mut ());
+                work.calls += 1;
+                match answer.expect("not refused") {
+                    receiver::Answer::Finished => break,
+                    receiver::Answer::Bundle { length, next, .. } => {
+                        work.bundle(&output[..length]);
+                        place = next as u64;
+                    }
+                }
+            }
+        }
+        work
+    };
+    Workload {
+        name,
+        exported: Box::new(through_image(ffi::receive)),
+        own_state: Box::new(own_state),
+        image: Box::new(through_image(
+            |image, pool, frame, place, output, result| {
+                interface::receive(image, pool, frame, place, output, result, &mut ())
+            },
+        )),
+    }
+}
+
+fn sending<'a>(name: &'static str, frame_size: u64, bundles: &'a [Vec<u8>]) -> Workload<'a> {
+    type Start = fn(&mut [u8], u64, u32) -> u32;
+    type Call = fn(&mut [u8], &[u8], &mut [u8], &mut [u64; 4]) -> u32;
+    let through_image = move |start: Start, call: Call| {
+        let mut frame = vec![0; frame_size as usize];
+        move || {
+            let mut work = Work::default();
+            let mut image = [0; SENDER_IMAGE];
+            assert_eq!(start(&mut image, frame_size, 1), 0);
+            for bundle in bundles {
+                loop {
+                    let mut result = [0; 4];
+                    let number = call(&mut image, bundle, &mut frame, &mut result);
+                    assert_eq!(number, 0);
+                    work.calls += 1;
+                    if result[0] != 0 {
+                        work.bundle(&frame);
+                    }
+                    if result[0] != 2 && image[8] == 0 {
+                        break;
+                    }
+                }
+            }
+            work
+        }
+    };
+    let mut frame = vec![0; frame_size as usize];
+    let own_state = move || {
+        let mut work = Work::default();
+        let mut state = sender::State::start(frame_size, 1).expect("a good frame size");
+        for bundle in bundles {
+            loop {
+                let answer = state.place(bundle, &mut frame).expect("not refused");
+                work.calls += 1;
+                if answer != sender::Answer::Placed {
+                    work.bundle(&frame);
+                }
+                if answer != sender::Answer::Ready && state.begun.is_none() {
+                    break;
+                }
+            }
+        }
+        work
+    };
+    Workload {
+        name,
+        exported: Box::new(through_image(ffi::sender_start, ffi::place)),
+        own_state: Box::new(own_state),
+        image: Box::new(through_image(interface::sender_start, interface::place)),
+    }
+}
+
+fn bundles(random: &mut Random, count: usize, length: usize) -> Vec<Vec<u8>> {
+    (0..count).map(|_| random.octets(length)).collect()
+}
+
+/// Fills frames with messages as long as they fit.
+fn packed(messages: impl Iterator<Item = Vec<u8>>) -> Vec<Vec<u8>> {
+    let mut frames = vec![Vec::with_capacity(FRAME)];
+    for message in messages {
+        if frames.last().expect("one at least").len() + message.len() > FRAME {
+            frames.push(Vec::with_capacity(FRAME));
+        }
+        frames.last_mut().expect("one at least").extend(message);
+    }
+    frames
+}
+
+fn small_bundle_frames(random: &mut Random) -> Vec<Vec<u8>> {
+    packed((0..4 * 170).map(|_| generate::message(BUNDLE, &[], &random.octets(8))))
+}
+
+fn small_piece_frames(random: &mut Random) -> Vec<Vec<u8>> {
+    const TOGETHER: u32 = 8;
+    const PIECES: u32 = 60;
+    let mut messages = Vec::new();
+    for group in 0..8 {
+        let mut own = Vec::new();
+        for index in 0..PIECES {
+            for transfer in 0..TOGETHER {
+                let number = group * TOGETHER + transfer;
+                let end = index + 1 == PIECES;
+                own.push(generate::piece(number, index, end, &[], &random.octets(4)));
+            }
+        }
+        messages.extend(generate::disorder(random, own, 40));
+    }
+    packed(messages.into_iter())
+}
+
+fn large_piece_frames(random: &mut Random) -> Vec<Vec<u8>> {
+    packed((0..32).map(|at| {
+        let data = random.octets(FRAME - 12);
+        generate::piece(at / 2, at % 2, at % 2 == 1, &[], &data)
+    }))
+}
+
+fn passed_frames(random: &mut Random) -> Vec<Vec<u8>> {
+    packed((0..2_000).map(|_| generate::passed(random, 12)))
+}
+
+/// Segments of a few transfers, all behind chains of hints; nothing is completed.
+fn hint_frames(random: &mut Random) -> Vec<Vec<u8>> {
+    packed((0..512).map(|at| {
+        let hints = [0x01, 2, 7, 7, 0x03, 0, 0x04, 4, 1, 2, 3, 4];
+        generate::piece(at % 8, 1 + at / 8 % 60, false, &hints, &random.octets(4))
+    }))
+}

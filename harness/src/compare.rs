@@ -1,0 +1,517 @@
+//! Calls made on both sides at once, and every octet compared.
+
+use crate::coverage::{Coverage, FRAME_LENGTHS, FRAME_SIZES};
+use crate::ffi::{self, MIN_OUTPUT, NO_NUMBER, POOL, RECEIVER_IMAGE, SENDER_IMAGE};
+use crate::model::interface;
+use crate::random::Random;
+
+/// One run of a scenario. A difference ends it with a message that names scenario and seed.
+pub struct Trial<'a> {
+    pub scenario: &'static str,
+    pub seed: u64,
+    pub random: Random,
+    pub coverage: &'a mut Coverage,
+    calls: u64,
+}
+
+impl<'a> Trial<'a> {
+    pub fn new(scenario: &'static str, seed: u64, coverage: &'a mut Coverage) -> Trial<'a> {
+        Trial {
+            scenario,
+            seed,
+            random: Random::new(seed),
+            coverage,
+            calls: 0,
+        }
+    }
+
+    #[track_caller]
+    pub fn check(&self, good: bool, what: &str) {
+        assert!(
+            good,
+            "scenario {}, seed {}, call {}: {what}",
+            self.scenario, self.seed, self.calls
+        );
+    }
+
+    #[track_caller]
+    fn same(&self, model: &[u8], exported: &[u8], what: &str) {
+        if model != exported {
+            let at = model.iter().zip(exported).position(|(a, b)| a != b);
+            self.check(false, &format!("{what} differs at {at:?}"));
+        }
+    }
+
+    fn begin_call(&mut self) -> [u64; 4] {
+        self.calls += 1;
+        [(); 4].map(|_| self.random.draw())
+    }
+
+    #[track_caller]
+    fn same_answer(&mut self, model: (u32, [u64; 4]), exported: (u32, [u64; 4])) {
+        if model != exported {
+            let [model, exported] = [model, exported]
+                .map(|(number, result)| format!("{number} with result {result:x?}"));
+            self.check(false, &format!("model: {model}, exported: {exported}"));
+        }
+        self.check(model.0 <= 14, "no such refusal");
+        self.coverage.refusals[model.0 as usize] += 1;
+    }
+}
+
+const GUARD: usize = 64;
+const GUARD_OCTET: u8 = 0xc3;
+
+/// Octets lent to the exported side, with guards before and behind that nobody may write to.
+pub struct Lent {
+    octets: Vec<u8>,
+}
+
+impl Lent {
+    pub fn new(content: &[u8]) -> Lent {
+        let mut octets = vec![GUARD_OCTET; content.len() + 2 * GUARD];
+        octets[GUARD..GUARD + content.len()].copy_from_slice(content);
+        Lent { octets }
+    }
+
+    pub fn get(&self) -> &[u8] {
+        &self.octets[GUARD..self.octets.len() - GUARD]
+    }
+
+    pub fn lend(&mut self) -> &mut [u8] {
+        let end = self.octets.len() - GUARD;
+        &mut self.octets[GUARD..end]
+    }
+
+    fn guards_stay(&self) -> bool {
+        let (before, rest) = self.octets.split_at(GUARD);
+        let (_, behind) = rest.split_at(rest.len() - GUARD);
+        before == [GUARD_OCTET; GUARD] && behind == [GUARD_OCTET; GUARD]
+    }
+}
+
+/// What a receiving call lends besides the carried state and pool.
+#[derive(Clone, Copy, Debug)]
+pub struct Lending {
+    /// Another pool of this length in place of the carried one.
+    pub other_pool: Option<usize>,
+    pub output: usize,
+}
+
+impl Default for Lending {
+    fn default() -> Lending {
+        Lending {
+            other_pool: None,
+            output: MIN_OUTPUT,
+        }
+    }
+}
+
+#[derive(Clone, Copy, Debug, PartialEq, Eq)]
+pub enum Received {
+    Refused(u32),
+    Finished,
+    Bundle { length: usize, next: u64 },
+}
+
+/// The same receiver on both sides.
+pub struct ReceiverPair {
+    image: Vec<u8>,
+    pool: Vec<u8>,
+    output: Vec<u8>,
+    image_before: Vec<u8>,
+    pool_before: Vec<u8>,
+    output_before: Vec<u8>,
+    exported_image: Lent,
+    exported_pool: Lent,
+    exported_output: Lent,
+    exported_frame: Lent,
+}
+
+impl ReceiverPair {
+    pub fn new(trial: &mut Trial, image: &[u8]) -> ReceiverPair {
+        let pool = trial.random.octets(POOL);
+        let output = trial.random.octets(MIN_OUTPUT);
+        ReceiverPair {
+            image: image.to_vec(),
+            image_before: image.to_vec(),
+            exported_image: Lent::new(image),
+            exported_pool: Lent::new(&pool),
+            pool_before: pool.clone(),
+            pool,
+            exported_output: Lent::new(&output),
+            output_before: output.clone(),
+            output,
+            exported_frame: Lent::new(&[]),
+        }
+    }
+
+    pub fn start(trial: &mut Trial) -> ReceiverPair {
+        let image = trial.random.octets(RECEIVER_IMAGE);
+        let mut pair = ReceiverPair::new(trial, &image);
+        let number = pair.restart(trial);
+        trial.check(number == 0, "start is refused");
+        pair
+    }
+
+    /// The receiver's start on the images as they are.
+    pub fn restart(&mut self, trial: &mut Trial) -> u32 {
+        let result = trial.begin_call();
+        trial.coverage.starts += 1;
+        let number = interface::receiver_start(&mut self.image);
+        let exported = ffi::receiver_start(self.exported_image.lend());
+        trial.same_answer((number, result), (exported, result));
+        trial.same(&self.image, self.exported_image.get(), "state");
+        trial.check(self.exported_image.guards_stay(), "written past the image");
+        if number != 0 {
+            trial.same(&self.image, &self.image_before, "state of a refused start");
+        }
+        self.image_before.copy_from_slice(&self.image);
+        number
+    }
+
+    /// Puts another image in place of the carried one.
+    pub fn set_image(&mut self, image: &[u8]) {
+        self.image = image.to_vec();
+        self.image_before = image.to_vec();
+        self.exported_image = Lent::new(image);
+    }
+
+    pub fn image(&self) -> &[u8] {
+        &self.image
+    }
+
+    /// The octets of the last bundle, if it had this length.
+    pub fn bundle(&self, length: usize) -> &[u8] {
+        &self.output[..length]
+    }
+
+    pub fn greatest(&self) -> Option<u32> {
+        let number = self.image[4..8].try_into().expect("four octets");
+        (self.image[0] == 1).then_some(u32::from_be_bytes(number))
+    }
+
+    pub fn receive(
+        &mut self,
+        trial: &mut Trial,
+        frame: &[u8],
+        place: u64,
+        lending: Lending,
+    ) -> Received {
+        let lent_result = trial.begin_call();
+        trial.coverage.receiving_calls += 1;
+        if self.exported_frame.get() != frame {
+            self.exported_frame = Lent::new(frame);
+        }
+        if self.output.len() != lending.output {
+            self.output = trial.random.octets(lending.output);
+            self.output_before = self.output.clone();
+            self.exported_output = Lent::new(&self.output);
+        }
+        let mut result = lent_result;
+        let mut exported_result = lent_result;
+        let (number, exported_number) = match lending.other_pool {
+            None => (
+                interface::receive(
+                    &mut self.image,
+                    &mut self.pool,
+                    frame,
+                    place,
+                    &mut self.output,
+                    &mut result,
+                    trial.coverage,
+                ),
+                ffi::receive(
+                    self.exported_image.lend(),
+                    self.exported_pool.lend(),
+                    self.exported_frame.get(),
+                    place,
+                    self.exported_output.lend(),
+                    &mut exported_result,
+                ),
+            ),
+            Some(length) => {
+                let mut other = trial.random.octets(length);
+                let mut exported_other = Lent::new(&other);
+                let number = interface::receive(
+                    &mut self.image,
+                    &mut other,
+                    frame,
+                    place,
+                    &mut self.output,
+                    &mut result,
+                    trial.coverage,
+                );
+                let exported_number = ffi::receive(
+                    self.exported_image.lend(),
+                    exported_other.lend(),
+                    self.exported_frame.get(),
+                    place,
+                    self.exported_output.lend(),
+                    &mut exported_result,
+                );
+                trial.same(&other, exported_other.get(), "other pool");
+                trial.check(exported_other.guards_stay(), "written past the pool");
+                (number, exported_number)
+            }
+        };
+        trial.same_answer((number, result), (exported_number, exported_result));
+        trial.same(&self.image, self.exported_image.get(), "state");
+        trial.same(&self.pool, self.exported_pool.get(), "pool");
+        trial.same(&self.output, self.exported_output.get(), "output");
+        trial.same(frame, self.exported_frame.get(), "frame");
+        let lent = [
+            &self.exported_image,
+            &self.exported_pool,
+            &self.exported_output,
+            &self.exported_frame,
+        ];
+        trial.check(
+            lent.iter().all(|lent| lent.guards_stay()),
+            "written past what was lent",
+        );
+        let received = self.classify(trial, number, lent_result, result, frame.len());
+        self.image_before.copy_from_slice(&self.image);
+        if number == 0 {
+            self.pool_before.copy_from_slice(&self.pool);
+            self.output_before.copy_from_slice(&self.output);
+        }
+        received
+    }
+
+    /// Checks what holds of every answer, and counts it.
+    fn classify(
+        &self,
+        trial: &mut Trial,
+        number: u32,
+        lent_result: [u64; 4],
+        result: [u64; 4],
+        frame_length: usize,
+    ) -> Received {
+        let mut expected = lent_result;
+        if let Some(edge) = FRAME_LENGTHS.iter().position(|&edge| edge == frame_length) {
+            trial.coverage.frame_lengths[edge] += 1;
+        }
+        if number != 0 {
+            if (4..=8).contains(&number) {
+                trial.check(result[2] < frame_length as u64, "place past the frame");
+                expected[2] = result[2];
+            }
+            trial.check(result == expected, "result of a refused call");
+            trial.same(&self.image, &self.image_before, "state of a refused call");
+            trial.same(&self.pool, &self.pool_before, "pool of a refused call");
+            trial.same(
+                &self.output,
+                &self.output_before,
+                "output of a refused call",
+            );
+            return Received::Refused(number);
+        }
+        if result[0] == 0 {
+            expected[0] = 0;
+            trial.check(result == expected, "result of Finished");
+            trial.same(&self.output, &self.output_before, "output of Finished");
+            trial.coverage.finished += 1;
+            return Received::Finished;
+        }
+        trial.check(result[0] == 1, "no such answer");
+        let (length, next) = (result[1] as usize, result[2]);
+        trial.check(length <= MIN_OUTPUT, "bundle too long");
+        trial.check(next <= frame_length as u64, "next place past the frame");
+        trial.check(result[3] <= NO_NUMBER, "no such number");
+        trial.same(
+            &self.output[length..],
+            &self.output_before[length..],
+            "output behind the bundle",
+        );
+        if result[3] == NO_NUMBER {
+            trial.coverage.plain_bundles += 1;
+        } else {
+            trial.coverage.transfers += 1;
+        }
+        trial.coverage.empty_bundles += u64::from(length == 0);
+        trial.coverage.full_bundles += u64::from(length == MIN_OUTPUT);
+        Received::Bundle { length, next }
+    }
+
+    /// Takes a frame to its end; the bundles go to `sink`.
+    pub fn take(&mut self, trial: &mut Trial, frame: &[u8], sink: &mut dyn FnMut(&[u8])) {
+        let mut place = 0;
+        while let Received::Bundle { length, next } =
+            self.receive(trial, frame, place, Lending::default())
+        {
+            trial.check(next > place, "the place does not move on");
+            sink(self.bundle(length));
+            place = next;
+        }
+    }
+}
+
+#[derive(Clone, Copy, Debug, PartialEq, Eq)]
+pub enum Sent {
+    Refused(u32),
+    Placed,
+    PlacedAndReady,
+    Ready,
+    Nothing,
+}
+
+#[derive(Clone, Copy, Debug)]
+pub enum Send<'a> {
+    Place(&'a [u8]),
+    Cancel,
+    Flush,
+}
+
+/// The same sender on both sides.
+pub struct SenderPair {
+    image: Vec<u8>,
+    frame: Vec<u8>,
+    exported_image: Lent,
+    exported_frame: Lent,
+}
+
+impl SenderPair {
+    /// A sender with this image, and a frame buffer of the image's frame size.
+    pub fn new(trial: &mut Trial, image: &[u8]) -> SenderPair {
+        let size = match image {
+            [high, low, ..] => usize::from(u16::from_be_bytes([*high, *low])),
+            _ => 128,
+        };
+        let frame = trial.random.octets(size);
+        SenderPair {
+            image: image.to_vec(),
+            exported_image: Lent::new(image),
+            exported_frame: Lent::new(&frame),
+            frame,
+        }
+    }
+
+    pub fn start(trial: &mut Trial, frame_size: usize, first_number: u32) -> SenderPair {
+        let image = trial.random.octets(SENDER_IMAGE);
+        let mut pair = SenderPair::new(trial, &image);
+        let number = pair.restart(trial, frame_size as u64, first_number);
+        trial.check(number == 0, "start is refused");
+        pair.frame = trial.random.octets(frame_size);
+        pair.exported_frame = Lent::new(&pair.frame);
+        pair
+    }
+
+    /// The sender's start on the images as they are.
+    pub fn restart(&mut self, trial: &mut Trial, frame_size: u64, first_number: u32) -> u32 {
+        let result = trial.begin_call();
+        trial.coverage.starts += 1;
+        if let Some(edge) = FRAME_SIZES.iter().position(|&edge| edge == frame_size) {
+            trial.coverage.frame_sizes[edge] += 1;
+        }
+        let before = self.image.clone();
+        let number = interface::sender_start(&mut self.image, frame_size, first_number);
+        let exported = ffi::sender_start(self.exported_image.lend(), frame_size, first_number);
+        trial.same_answer((number, result), (exported, result));
+        trial.same(&self.image, self.exported_image.get(), "state");
+        trial.check(self.exported_image.guards_stay(), "written past the image");
+        if number != 0 {
+            trial.same(&self.image, &before, "state of a refused start");
+        }
+        number
+    }
+
+    pub fn image(&self) -> &[u8] {
+        &self.image
+    }
+
+    pub fn frame(&self) -> &[u8] {
+        &self.frame
+    }
+
+    pub fn frame_size(&self) -> usize {
+        usize::from(u16::from_be_bytes([self.image[0], self.image[1]]))
+    }
+
+    pub fn fill(&self) -> usize {
+        usize::from(u16::from_be_bytes([self.image[2], self.image[3]]))
+    }
+
+    /// The length of the transfer begun.
+    pub fn begun(&self) -> Option<usize> {
+        let length = u16::from_be_bytes([self.image[16], self.image[17]]);
+        (self.image[8] == 1).then_some(usize::from(length))
+    }
+
+    pub fn send(&mut self, trial: &mut Trial, call: Send) -> Sent {
+        let mut frame = std::mem::take(&mut self.frame);
+        let mut lent = std::mem::replace(&mut self.exported_frame, Lent::new(&[]));
+        let sent = self.send_into(trial, call, &mut frame, &mut lent);
+        self.frame = frame;
+        self.exported_frame = lent;
+        sent
+    }
+
+    /// A call with another frame buffer of this length.
+    pub fn send_elsewhere(&mut self, trial: &mut Trial, call: Send, length: usize) -> Sent {
+        let mut frame = trial.random.octets(length);
+        let mut lent = Lent::new(&frame);
+        self.send_into(trial, call, &mut frame, &mut lent)
+    }
+
+    fn send_into(
+        &mut self,
+        trial: &mut Trial,
+        call: Send,
+        frame: &mut [u8],
+        lent: &mut Lent,
+    ) -> Sent {
+        let lent_result = trial.begin_call();
+        trial.coverage.sending_calls += 1;
+        let image_before = self.image.clone();
+        let frame_before = frame.to_vec();
+        let mut result = lent_result;
+        let mut exported_result = lent_result;
+        let image = &mut self.image;
+        let exported_image = self.exported_image.lend();
+        let (number, exported_number) = match call {
+            Send::Place(bundle) => {
+                let exported_bundle = Lent::new(bundle);
+                let number = interface::place(image, bundle, frame, &mut result);
+                let exported_number = ffi::place(
+                    exported_image,
+                    exported_bundle.get(),
+                    lent.lend(),
+                    &mut exported_result,
+                );
+                trial.same(bundle, exported_bundle.get(), "bundle");
+                (number, exported_number)
+            }
+            Send::Cancel => (
+                interface::cancel(image, frame, &mut result),
+                ffi::cancel(exported_image, lent.lend(), &mut exported_result),
+            ),
+            Send::Flush => (
+                interface::flush(image, frame, &mut result),
+                ffi::flush(exported_image, lent.lend(), &mut exported_result),
+            ),
+        };
+        trial.same_answer((number, result), (exported_number, exported_result));
+        trial.same(&self.image, self.exported_image.get(), "state");
+        trial.same(frame, lent.get(), "frame");
+        trial.check(
+            self.exported_image.guards_stay() && lent.guards_stay(),
+            "written past what was lent",
+        );
+        if number != 0 {
+            trial.check(result == lent_result, "result of a refused call");
+            trial.same(&self.image, &image_before, "state of a refused call");
+            trial.same(frame, &frame_before, "frame of a refused call");
+            return Sent::Refused(number);
+        }
+        trial.check(result[1..] == lent_result[1..], "result without meaning");
+        trial.check(result[0] <= 3, "no such answer");
+        trial.coverage.sent[result[0] as usize] += 1;
+        match result[0] {
+            0 => Sent::Placed,
+            1 => Sent::PlacedAndReady,
+            2 => Sent::Ready,
+            _ => Sent::Nothing,
+        }
+    }
+}

@@ -1,0 +1,208 @@
+//! Counts of the cases that generated calls have reached.
+
+use crate::generate::{RECEIVER_DAMAGE, SENDER_DAMAGE};
+use crate::model::receiver::{Contradiction, Distance, Observer, Phase, Step};
+
+/// Differences from the greatest number at the edges of the window table.
+pub const EDGES: [u32; 8] = [
+    0,
+    1,
+    15,
+    16,
+    2_147_483_655,
+    2_147_483_656,
+    4_294_967_280,
+    4_294_967_281,
+];
+
+/// Lengths of frames at the edges of what is allowed.
+pub const FRAME_LENGTHS: [usize; 4] = [0, 1, 2048, 2049];
+
+/// Frame sizes at the edges of what the sender's start allows.
+pub const FRAME_SIZES: [u64; 4] = [127, 128, 2048, 2049];
+
+#[derive(Clone, Debug, Default, PartialEq, Eq)]
+pub struct Coverage {
+    pub scenarios: u64,
+    pub receiving_calls: u64,
+    pub sending_calls: u64,
+    pub starts: u64,
+    /// By number; entry 0 counts the calls that were not refused.
+    pub refusals: [u64; 15],
+    pub distances: [u64; 5],
+    pub edges: [u64; EDGES.len()],
+    /// New numbers beyond 4,294,967,295.
+    pub wraps: u64,
+    /// Steps 1 to 6; entry 0 is not used.
+    pub steps: [u64; 7],
+    pub contradictions: [u64; 4],
+    /// Bundles joined from one piece, from pieces in rising order, in another order, from 64.
+    pub joins: [u64; 4],
+    /// Cancels inside the window, by the row's phase before.
+    pub cancels: [u64; 5],
+    pub finished: u64,
+    pub plain_bundles: u64,
+    pub transfers: u64,
+    pub empty_bundles: u64,
+    pub full_bundles: u64,
+    pub frame_lengths: [u64; FRAME_LENGTHS.len()],
+    pub frame_sizes: [u64; FRAME_SIZES.len()],
+    /// Placed, Placed and ready, Ready, Nothing.
+    pub sent: [u64; 4],
+    pub receiver_damage: [u64; RECEIVER_DAMAGE.len()],
+    pub sender_damage: [u64; SENDER_DAMAGE.len()],
+    pub round_trips: u64,
+    /// Frames taken with at least 1,000 hints in one chain, and with at least 500 messages.
+    pub long_chains: u64,
+    pub dense_frames: u64,
+}
+
+impl Coverage {
+    pub fn calls(&self) -> u64 {
+        self.receiving_calls + self.sending_calls + self.starts
+    }
+
+    /// Every count of a case with its name.
+    pub fn cases(&self) -> Vec<(String, u64)> {
+        let mut cases = Vec::new();
+        let mut list = |what: &str, names: &[&str], counts: &[u64]| {
+            assert_eq!(names.len(), counts.len());
+            for (name, &count) in names.iter().zip(counts) {
+                cases.push((format!("{what}: {name}"), count));
+            }
+        };
+        let numbers: Vec<String> = (0..15).map(|number| number.to_string()).collect();
+        let numbers: Vec<&str> = numbers.iter().map(String::as_str).collect();
+        list("refusal", &numbers[1..], &self.refusals[1..]);
+        list(
+            "window",
+            &["G absent", "0", "new", "outside", "behind"],
+            &self.distances,
+        );
+        let edges: Vec<String> = EDGES.iter().map(u32::to_string).collect();
+        let edges: Vec<&str> = edges.iter().map(String::as_str).collect();
+        list("difference", &edges, &self.edges);
+        list("difference", &["over the wrap"], &[self.wraps]);
+        list("row step", &numbers[1..7], &self.steps[1..]);
+        list(
+            "contradiction",
+            &[
+                "above the final",
+                "other final",
+                "held above the end",
+                "other kind",
+            ],
+            &self.contradictions,
+        );
+        list(
+            "join",
+            &["one piece", "rising order", "other order", "64 pieces"],
+            &self.joins,
+        );
+        list(
+            "cancel of a row",
+            &["Free", "Open", "Done", "Cancelled", "Given up"],
+            &self.cancels,
+        );
+        list(
+            "answer",
+            &[
+                "Finished",
+                "bundle without a number",
+                "bundle of a transfer",
+                "bundle of 0 octets",
+                "bundle of 4,096 octets",
+            ],
+            &[
+                self.finished,
+                self.plain_bundles,
+                self.transfers,
+                self.empty_bundles,
+                self.full_bundles,
+            ],
+        );
+        list(
+            "frame length",
+            &["0", "1", "2,048", "2,049"],
+            &self.frame_lengths,
+        );
+        list(
+            "frame size",
+            &["127", "128", "2,048", "2,049"],
+            &self.frame_sizes,
+        );
+        list(
+            "answer",
+            &["Placed", "Placed and ready", "Ready", "Nothing"],
+            &self.sent,
+        );
+        list("unsound receiver", &RECEIVER_DAMAGE, &self.receiver_damage);
+        list("unsound sender", &SENDER_DAMAGE, &self.sender_damage);
+        list("bundle", &["from sender to receiver"], &[self.round_trips]);
+        list(
+            "frame",
+            &["chain of 1,000 hints", "500 messages"],
+            &[self.long_chains, self.dense_frames],
+        );
+        cases
+    }
+}
+
+impl Observer for Coverage {
+    fn distance(&mut self, case: Distance, difference: u32, number: u32) {
+        let place = match case {
+            Distance::First => 0,
+            Distance::Same => 1,
+            Distance::New => 2,
+            Distance::Outside => 3,
+            Distance::Behind => 4,
+        };
+        self.distances[place] += 1;
+        self.wraps += u64::from(case == Distance::New && number < difference);
+        if case != Distance::First {
+            if let Some(edge) = EDGES.iter().position(|&edge| edge == difference) {
+                self.edges[edge] += 1;
+            }
+        }
+    }
+
+    fn step(&mut self, step: Step) {
+        let number = match step {
+            Step::Settled => 1,
+            Step::IndexTooGreat => 2,
+            Step::Contradicts(contradiction) => {
+                let place = match contradiction {
+                    Contradiction::AboveLast => 0,
+                    Contradiction::OtherLast => 1,
+                    Contradiction::HeldAboveEnd => 2,
+                    Contradiction::OtherKind => 3,
+                };
+                self.contradictions[place] += 1;
+                3
+            }
+            Step::Held => 4,
+            Step::Overflow => 5,
+            Step::Stored | Step::Completed(_) => 6,
+        };
+        self.steps[number] += 1;
+    }
+
+    fn join(&mut self, indexes: &[u8]) {
+        let rising = indexes.windows(2).all(|pair| pair[0] < pair[1]);
+        self.joins[0] += u64::from(indexes.len() == 1);
+        self.joins[1] += u64::from(indexes.len() > 1 && rising);
+        self.joins[2] += u64::from(!rising);
+        self.joins[3] += u64::from(indexes.len() == 64);
+    }
+
+    fn cancel(&mut self, before: Phase) {
+        let place = match before {
+            Phase::Free => 0,
+            Phase::Open => 1,
+            Phase::Done => 2,
+            Phase::Cancelled => 3,
+            Phase::GivenUp => 4,
+        };
+        self.cancels[place] += 1;
+    }
+}

@@ -1,0 +1,895 @@
+//! Messages, frames and states, good and damaged.
+
+use crate::coverage::EDGES;
+use crate::ffi::{RECEIVER_IMAGE, SENDER_IMAGE};
+use crate::model::receiver::{distance, Distance};
+use crate::model::wire;
+use crate::random::Random;
+
+pub const ROWS: usize = 16;
+pub const ROW_IMAGE: usize = 196;
+const PIECES: usize = 64;
+const CELL: usize = 4096;
+const MAX_FRAME: usize = 2048;
+
+pub const PADDING: u8 = 1;
+pub const BUNDLE: u8 = 2;
+pub const SEGMENT: u8 = 3;
+pub const END: u8 = 4;
+pub const CANCEL: u8 = 5;
+
+/// A headed message; `hints` is a chain, or empty.
+pub fn message(kind: u8, hints: &[u8], content: &[u8]) -> Vec<u8> {
+    let length = hints.len() + content.len();
+    let flags = if hints.is_empty() { 0 } else { 0x80 };
+    let mut octets = vec![
+        kind,
+        flags | (length >> 16) as u8,
+        (length >> 8) as u8,
+        length as u8,
+    ];
+    octets.extend(hints);
+    octets.extend(content);
+    octets
+}
+
+pub fn piece(number: u32, index: u32, end: bool, hints: &[u8], data: &[u8]) -> Vec<u8> {
+    let mut content = number.to_be_bytes().to_vec();
+    content.extend(index.to_be_bytes());
+    content.extend(data);
+    message(if end { END } else { SEGMENT }, hints, &content)
+}
+
+pub fn cancel(number: u32, hints: &[u8]) -> Vec<u8> {
+    message(CANCEL, hints, &number.to_be_bytes())
+}
+
+/// A chain of hints of at most `budget` octets, empty more often than not.
+pub fn hints(random: &mut Random, budget: usize) -> Vec<u8> {
+    let mut chain = Vec::new();
+    if budget < 2 || !random.once_in(4) {
+        return chain;
+    }
+    loop {
+        let room = budget - chain.len() - 2;
+        let length = match random.below(4) {
+            0 => 0,
+            1 => random.below(9),
+            _ => random.below(40),
+        }
+        .min(room)
+        .min(255);
+        let more = random.once_in(2) && room >= length + 2;
+        chain.extend([random.octet() & 0xfe | u8::from(more), length as u8]);
+        chain.extend(random.octets(length));
+        if !more {
+            return chain;
+        }
+    }
+}
+
+/// Padding or a message of a type that is passed over, of at most `budget` octets.
+pub fn passed(random: &mut Random, budget: usize) -> Vec<u8> {
+    if budget < 4 || random.once_in(3) {
+        return vec![0; random.within(1, 6).min(budget)];
+    }
+    let kind = if random.once_in(2) {
+        PADDING
+    } else {
+        random.within(6, 255) as u8
+    };
+    let length = random.below(30).min(budget - 4);
+    let content = random.octets(length);
+    let mut octets = message(kind, &[], &content);
+    // H has no meaning in these types.
+    if random.once_in(4) {
+        octets[1] |= 0x80;
+    }
+    octets
+}
+
+/// Packs messages one behind the other into frames of at most `size` octets.
+pub fn pack(random: &mut Random, messages: &[Vec<u8>], size: usize) -> Vec<Vec<u8>> {
+    let mut frames = Vec::new();
+    let mut frame: Vec<u8> = Vec::new();
+    for message in messages {
+        let full = frame.len() + message.len() > size.max(message.len());
+        if !frame.is_empty() && (full || random.once_in(30)) {
+            frames.push(std::mem::take(&mut frame));
+        }
+        frame.extend(message);
+    }
+    if !frame.is_empty() {
+        frames.push(frame);
+    }
+    frames
+}
+
+/// Good places of a well-formed frame.
+pub fn good_places(frame: &[u8]) -> Vec<u64> {
+    let mut places = vec![0];
+    let mut at = 0;
+    while at < frame.len() {
+        match wire::read(frame, at) {
+            Ok((_, next)) => at = next,
+            Err(_) => break,
+        }
+        places.push(at as u64);
+    }
+    places
+}
+
+/// A number to start from, often just before one of the wraps.
+pub fn first_number(random: &mut Random) -> u32 {
+    match random.below(4) {
+        0 => random.word(),
+        1 => 0u32.wrapping_sub(random.below(40) as u32),
+        2 => (1u32 << 31).wrapping_sub(random.below(40) as u32),
+        _ => random.below(40) as u32,
+    }
+}
+
+/// Cuts a bundle into at most `most` pieces of at most 2,000 octets, some of them empty.
+pub fn cut<'a>(random: &mut Random, bundle: &'a [u8], most: usize) -> Vec<&'a [u8]> {
+    let count = random.edge_or_within(bundle.len().div_ceil(2000).max(1), most.max(3));
+    let mut marks: Vec<usize> = (1..count).map(|_| random.below(bundle.len() + 1)).collect();
+    marks.push(0);
+    marks.push(bundle.len());
+    marks.sort();
+    let good = marks.windows(2).all(|pair| pair[1] - pair[0] <= 2000);
+    if !good {
+        let size = bundle.len().div_ceil(count).max(1);
+        return bundle.chunks(size).collect();
+    }
+    marks
+        .windows(2)
+        .map(|pair| &bundle[pair[0]..pair[1]])
+        .collect()
+}
+
+pub fn bundle_length(random: &mut Random) -> usize {
+    match random.below(8) {
+        0 => 0,
+        1 => 1,
+        2 => CELL,
+        3 => random.within(0, CELL),
+        _ => random.within(0, 300),
+    }
+}
+
+/// Moves each entry by at most about `reach` places.
+pub fn disorder<T>(random: &mut Random, list: Vec<T>, reach: usize) -> Vec<T> {
+    let mut keyed: Vec<(usize, T)> = list
+        .into_iter()
+        .enumerate()
+        .map(|(place, entry)| (place + random.below(reach + 1), entry))
+        .collect();
+    keyed.sort_by_key(|entry| entry.0);
+    keyed.into_iter().map(|entry| entry.1).collect()
+}
+
+/// Messages of an honest record: several transfers with loss, repeats, disorder and cancels.
+pub fn honest_messages(random: &mut Random, transfers: usize) -> Vec<Vec<u8>> {
+    let mut messages = Vec::new();
+    let mut number = first_number(random);
+    let most = random.pick(&[3, 8, 20, 64]);
+    let loss = random.pick(&[8, 40, usize::MAX]);
+    for _ in 0..transfers {
+        let length = bundle_length(random);
+        let bundle = random.octets(length);
+        let pieces = cut(random, &bundle, most);
+        let last = pieces.len() - 1;
+        let mut own = Vec::new();
+        for (index, data) in pieces.into_iter().enumerate() {
+            let hints = hints(random, 30);
+            let octets = piece(number, index as u32, index == last, &hints, data);
+            if random.once_in(10) {
+                own.push(octets.clone());
+            }
+            own.push(octets);
+        }
+        if random.once_in(6) {
+            let hints = hints(random, 20);
+            own.insert(random.below(own.len() + 1), cancel(number, &hints));
+        }
+        messages.extend(own);
+        if random.once_in(3) {
+            let hints = hints(random, 30);
+            let length = random.below(60);
+            messages.push(message(BUNDLE, &hints, &random.octets(length)));
+        }
+        if random.once_in(3) {
+            messages.push(passed(random, 40));
+        }
+        number = number.wrapping_add(1);
+    }
+    let reach = random.pick(&[0, 0, 3, 20, 100]);
+    let mut messages = disorder(random, messages, reach);
+    messages.retain(|_| !random.once_in(loss));
+    messages
+}
+
+/// Numbers near the window and far away, as seen from the greatest number so far.
+fn hostile_number(random: &mut Random, greatest: &mut Option<u32>) -> u32 {
+    let Some(from) = *greatest else {
+        let number = first_number(random);
+        *greatest = Some(number);
+        return number;
+    };
+    let difference = match random.below(24) {
+        0..=9 => 0u32.wrapping_sub(random.below(3) as u32),
+        10..=15 => 0u32.wrapping_sub(random.below(18) as u32),
+        16..=18 => random.below(3) as u32,
+        19 => random.below(20) as u32,
+        20 => random.word(),
+        _ => random.pick(&EDGES),
+    };
+    let number = from.wrapping_add(difference);
+    if distance(difference) == Distance::New {
+        *greatest = Some(number);
+    }
+    number
+}
+
+fn hostile_index(random: &mut Random) -> u32 {
+    match random.below(20) {
+        0 => random.pick(&[61, 62, 63]),
+        1 => random.pick(&[64, 65, 127, 128, 255, 256, 257, 1 << 16, 1 << 31, u32::MAX]),
+        2..=4 => random.below(64) as u32,
+        _ => random.below(5) as u32,
+    }
+}
+
+fn data_length(random: &mut Random) -> usize {
+    match random.below(12) {
+        0 => 0,
+        1 => random.within(1000, 2000),
+        2 => random.within(100, 1000),
+        _ => random.within(0, 12),
+    }
+}
+
+/// One well-formed message with a hostile number and index.
+pub fn hostile_message(random: &mut Random, greatest: &mut Option<u32>) -> Vec<u8> {
+    let chain = hints(random, 24);
+    match random.below(20) {
+        0 => passed(random, 40),
+        1 => {
+            let length = random.below(40);
+            message(BUNDLE, &chain, &random.octets(length))
+        }
+        2 => cancel(hostile_number(random, greatest), &chain),
+        _ => {
+            let number = hostile_number(random, greatest);
+            let index = hostile_index(random);
+            let length = data_length(random);
+            let end = random.once_in(4);
+            piece(number, index, end, &chain, &random.octets(length))
+        }
+    }
+}
+
+/// A well-formed frame of hostile messages.
+pub fn hostile_frame(random: &mut Random, mut greatest: Option<u32>) -> Vec<u8> {
+    let size = random.pick(&[60, 300, MAX_FRAME]);
+    let mut frame = Vec::new();
+    loop {
+        let message = hostile_message(random, &mut greatest);
+        if frame.len() + message.len() > size {
+            break;
+        }
+        frame.extend(message);
+    }
+    if frame.is_empty() {
+        frame.push(0);
+    }
+    if random.once_in(20) {
+        fill_up(random, &mut frame);
+    }
+    frame
+}
+
+/// Fills a frame up to its greatest length with messages that have no effect.
+pub fn fill_up(random: &mut Random, frame: &mut Vec<u8>) {
+    while frame.len() < MAX_FRAME {
+        let rest = MAX_FRAME - frame.len();
+        frame.extend(passed(random, rest));
+    }
+}
+
+/// Damages a frame: bits, cuts, length fields, flags, hint chains, octets added.
+pub fn damage_frame(random: &mut Random, frame: &mut Vec<u8>) {
+    let places = good_places(frame);
+    let start = places[random.below(places.len())] as usize;
+    match random.below(8) {
+        0 | 1 => {
+            for _ in 0..random.within(1, 3) {
+                let at = random.below(frame.len());
+                frame[at] ^= 1 << random.below(8);
+            }
+        }
+        2 => {
+            frame.truncate(random.within(1, frame.len()));
+        }
+        3 => {
+            // The length field of one message, one up or down or anything.
+            if start + 4 <= frame.len() && frame[start] != 0 {
+                let any = random.octet();
+                let change = random.pick(&[1, 255, 2, 254, any]);
+                frame[start + 3] = frame[start + 3].wrapping_add(change);
+                if random.once_in(6) {
+                    frame[start + 1] |= random.octet() & 0x0f;
+                }
+            }
+        }
+        4 => {
+            if start + 1 < frame.len() && frame[start] != 0 {
+                frame[start + 1] |= random.pick(&[0x10, 0x20, 0x40]);
+            }
+        }
+        5 => {
+            // H set where no chain stands, so that content is read as hints.
+            if start + 1 < frame.len() && frame[start] != 0 {
+                frame[start + 1] |= 0x80;
+            }
+        }
+        6 => {
+            let kind = random.pick(&[2, 3, 4, 5]);
+            let length = random.below(10);
+            let content = random.octets(length);
+            frame.splice(start..start, message(kind, &[], &content));
+        }
+        _ => {
+            let added = random.within(1, 3);
+            frame.extend((0..added).map(|_| random.within(1, 255) as u8));
+        }
+    }
+}
+
+/// Octets without structure, with values that mean something made frequent.
+pub fn random_frame(random: &mut Random) -> Vec<u8> {
+    let length = match random.below(12) {
+        0 => 0,
+        1 => 1,
+        2 => MAX_FRAME,
+        3 => MAX_FRAME + 1,
+        4 => random.within(2, MAX_FRAME + 100),
+        _ => random.within(1, 40),
+    };
+    let style = random.below(3);
+    (0..length)
+        .map(|_| match style {
+            0 => random.octet(),
+            1 => random.pick(&[0, 0, 0, 1, 2, 3, 4, 5, 8, 0x80]),
+            _ => random.pick(&[0, 2, 4, 8]),
+        })
+        .collect()
+}
+
+/// Pieces of an Open row as a state holds them.
+#[derive(Clone, Debug)]
+pub struct OpenRow {
+    pub last: Option<u8>,
+    pub pieces: Vec<(u8, u16)>,
+}
+
+impl OpenRow {
+    /// A sound Open row with `count` pieces.
+    fn sound(random: &mut Random, count: usize) -> OpenRow {
+        let mut indexes: Vec<u8> = (0..PIECES as u8).collect();
+        if random.once_in(2) {
+            // Indexes close together, as in a transfer of few pieces.
+            indexes.truncate((count + random.below(3)).min(PIECES));
+        }
+        random.shuffle(&mut indexes);
+        indexes.truncate(count);
+        let total = match random.below(4) {
+            0 => CELL,
+            1 => random.below(CELL + 1),
+            _ => random.below(200),
+        };
+        let mut marks: Vec<usize> = (1..count).map(|_| random.below(total + 1)).collect();
+        marks.extend([0, total]);
+        marks.sort();
+        let pieces: Vec<(u8, u16)> = indexes
+            .iter()
+            .zip(marks.windows(2))
+            .map(|(&index, pair)| (index, (pair[1] - pair[0]) as u16))
+            .collect();
+        let greatest = *indexes.iter().max().expect("at least one piece");
+        let all = usize::from(greatest) + 1 == count;
+        OpenRow {
+            last: (!all && random.once_in(2)).then_some(greatest),
+            pieces,
+        }
+    }
+
+    pub fn octets(&self) -> usize {
+        self.pieces.iter().map(|piece| usize::from(piece.1)).sum()
+    }
+
+    pub fn read(octets: &[u8]) -> OpenRow {
+        let (indexes, lengths) = octets[4..].split_at(PIECES);
+        OpenRow {
+            last: (octets[1] == 1).then_some(octets[2]),
+            pieces: indexes
+                .iter()
+                .zip(lengths.chunks_exact(2))
+                .map(|(&index, length)| (index, u16::from_be_bytes([length[0], length[1]])))
+                .take(usize::from(octets[3]))
+                .collect(),
+        }
+    }
+
+    fn write(&self, octets: &mut [u8]) {
+        octets.fill(0);
+        octets[0] = 1;
+        octets[1] = self.last.is_some().into();
+        octets[2] = self.last.unwrap_or(0);
+        octets[3] = self.pieces.len() as u8;
+        for (place, &(index, length)) in self.pieces.iter().enumerate() {
+            octets[4 + place] = index;
+            put_length(octets, place, length);
+        }
+    }
+}
+
+fn put_length(octets: &mut [u8], place: usize, length: u16) {
+    octets[4 + PIECES + 2 * place..][..2].copy_from_slice(&length.to_be_bytes());
+}
+
+pub fn row(image: &[u8], row: usize) -> &[u8] {
+    &image[8 + ROW_IMAGE * row..][..ROW_IMAGE]
+}
+
+fn row_mut(image: &mut [u8], row: usize) -> &mut [u8] {
+    &mut image[8 + ROW_IMAGE * row..][..ROW_IMAGE]
+}
+
+fn piece_count(random: &mut Random) -> usize {
+    match random.below(4) {
+        0 => 1,
+        1 => random.pick(&[60, 62, 63, 63, 64]),
+        2 => random.within(1, 64),
+        _ => random.within(1, 6),
+    }
+}
+
+/// The image of a sound receiver with a greatest number and rows of every kind.
+pub fn sound_receiver(random: &mut Random) -> Vec<u8> {
+    let mut image = vec![0; RECEIVER_IMAGE];
+    image[0] = 1;
+    let greatest = first_number(random);
+    image[4..8].copy_from_slice(&greatest.to_be_bytes());
+    let style = random.below(8);
+    for place in 0..ROWS {
+        let phase = if style < 2 {
+            style as u8
+        } else {
+            random.pick(&[0, 1, 1, 1, 2, 3, 4])
+        };
+        let octets = row_mut(&mut image, place);
+        if phase == 1 {
+            let count = piece_count(random);
+            OpenRow::sound(random, count).write(octets);
+        } else {
+            octets[0] = phase;
+        }
+    }
+    image
+}
+
+/// The ways in which a receiver's image is unsound or no state.
+pub const RECEIVER_DAMAGE: [&str; 24] = [
+    "length of the image",
+    "G's flag above 1",
+    "octets 1 to 3 not zero",
+    "G absent and not zero",
+    "G absent, a row not Free",
+    "phase above 4",
+    "final's flag above 1",
+    "Open without pieces",
+    "more than 64 pieces",
+    "index above 63",
+    "index held twice",
+    "octets above 4,096",
+    "index above the final",
+    "final not held",
+    "final above 63",
+    "all up to the final held",
+    "unknown final not zero",
+    "index beyond the pieces",
+    "length beyond the pieces",
+    "pieces in a row not Open",
+    "known final in a row not Open",
+    "final in a row not Open",
+    "index in a row not Open",
+    "length in a row not Open",
+];
+
+/// An image of a receiver that must be refused, damaged in the way of that place in the list.
+pub fn unsound_receiver(random: &mut Random, damage: usize) -> Vec<u8> {
+    let mut image = sound_receiver(random);
+    let place = random.below(ROWS);
+    let wrong_flag = random.within(2, 255) as u8;
+    let not_zero = random.within(1, 255) as u8;
+    let phase = random.pick(&[0, 2, 3, 4]);
+    match damage {
+        0 => {
+            let length = random.pick(&[0, 1, 24, RECEIVER_IMAGE - 1, RECEIVER_IMAGE + 1, 8357]);
+            image.resize(length, 0);
+            return image;
+        }
+        1 => {
+            image[0] = wrong_flag;
+            return image;
+        }
+        2 => {
+            image[random.within(1, 3)] = not_zero;
+            return image;
+        }
+        3 => {
+            image.fill(0);
+            image[random.within(4, 7)] = not_zero;
+            return image;
+        }
+        4 => {
+            let kept = row(&image, place).to_vec();
+            image.fill(0);
+            let octets = row_mut(&mut image, place);
+            octets.copy_from_slice(&kept);
+            if octets[0] == 0 {
+                octets[0] = random.pick(&[2, 3, 4]);
+            }
+            return image;
+        }
+        _ => {}
+    }
+    let octets = row_mut(&mut image, place);
+    let count = piece_count(random);
+    let mut open = OpenRow::sound(random, count);
+    match damage {
+        5 => {
+            octets.fill(0);
+            octets[0] = random.within(5, 255) as u8;
+        }
+        6 => {
+            if random.once_in(2) {
+                open.write(octets);
+            } else {
+                octets.fill(0);
+                octets[0] = phase;
+            }
+            octets[1] = wrong_flag;
+        }
+        7 => {
+            octets.fill(0);
+            octets[0] = 1;
+            if random.once_in(2) {
+                octets[1] = 1;
+                octets[2] = random.below(64) as u8;
+            }
+        }
+        8 => {
+            OpenRow::sound(random, 64).write(octets);
+            octets[1..3].fill(0);
+            octets[3] = random.pick(&[65, 66, 127, 128, 255]);
+        }
+        9 => {
+            open.last = None;
+            let at = random.below(open.pieces.len());
+            open.pieces[at].0 = random.pick(&[64, 65, 127, 128, 255]);
+            open.write(octets);
+        }
+        10 => {
+            let count = random.within(2, 64);
+            open = OpenRow::sound(random, count);
+            open.last = None;
+            let (from, to) = two_places(random, count);
+            open.pieces[to].0 = open.pieces[from].0;
+            open.write(octets);
+        }
+        11 => {
+            let count = random.within(1, 64);
+            open = OpenRow::sound(random, count);
+            let at = random.below(count);
+            let others = open.octets() - usize::from(open.pieces[at].1);
+            // The last two make sums that a narrow number would take for small ones.
+            match random.below(4) {
+                0 => open.pieces[at].1 = (CELL + 1 - others) as u16,
+                1 => open.pieces[at].1 = random.within(CELL + 1, 65_535) as u16,
+                2 => open.pieces[at].1 = (65_536 - others.max(1)) as u16,
+                _ => open.pieces.iter_mut().for_each(|piece| piece.1 = 1 << 15),
+            }
+            open.write(octets);
+        }
+        12 => {
+            let count = random.within(2, 64);
+            open = OpenRow::sound(random, count);
+            let greatest = open.pieces.iter().map(|piece| piece.0).max();
+            let lower: Vec<u8> = open
+                .pieces
+                .iter()
+                .map(|piece| piece.0)
+                .filter(|&index| Some(index) != greatest)
+                .collect();
+            open.last = Some(random.pick(&lower));
+            open.write(octets);
+        }
+        13 => {
+            let held: Vec<u8> = open.pieces.iter().map(|piece| piece.0).collect();
+            let Some(last) = (0..PIECES as u8)
+                .rev()
+                .take_while(|index| !held.contains(index))
+                .last()
+                .map(|least| random.within(usize::from(least), PIECES - 1) as u8)
+            else {
+                // Index 63 is held: take it out, or move it if it is the only one.
+                open.pieces.retain(|piece| piece.0 != 63);
+                if open.pieces.is_empty() {
+                    open.pieces.push((0, 0));
+                }
+                open.last = Some(63);
+                open.write(octets);
+                return image;
+            };
+            open.last = Some(last);
+            open.write(octets);
+        }
+        14 => {
+            open.last = Some(random.pick(&[64, 65, 127, 128, 255]));
+            open.write(octets);
+        }
+        15 => {
+            let count = random.within(1, 64);
+            open = OpenRow::sound(random, count);
+            let mut indexes: Vec<u8> = (0..count as u8).collect();
+            random.shuffle(&mut indexes);
+            for (piece, index) in open.pieces.iter_mut().zip(indexes) {
+                piece.0 = index;
+            }
+            open.last = Some(count as u8 - 1);
+            open.write(octets);
+        }
+        16 => {
+            open.last = None;
+            open.write(octets);
+            octets[2] = not_zero;
+        }
+        17 | 18 => {
+            let count = random.within(1, 63);
+            open = OpenRow::sound(random, count);
+            open.write(octets);
+            let beyond = random.within(count, 63);
+            if damage == 17 {
+                octets[4 + beyond] = not_zero;
+            } else {
+                let length = 1 << random.below(16);
+                put_length(octets, beyond, length);
+            }
+        }
+        _ => {
+            octets.fill(0);
+            octets[0] = phase;
+            match damage {
+                19 => octets[3] = not_zero,
+                20 => {
+                    octets[1] = 1;
+                    octets[2] = random.octet();
+                }
+                21 => octets[2] = not_zero,
+                22 => octets[4 + random.below(PIECES)] = not_zero,
+                _ => {
+                    let length = 1 << random.below(16);
+                    put_length(octets, random.below(PIECES), length);
+                }
+            }
+        }
+    }
+    image
+}
+
+fn two_places(random: &mut Random, count: usize) -> (usize, usize) {
+    let from = random.below(count);
+    let to = (from + random.within(1, count - 1)) % count;
+    (from, to)
+}
+
+/// The frame sizes that senders are tried with.
+pub fn frame_size(random: &mut Random) -> usize {
+    match random.below(3) {
+        0 => random.pick(&[128, 129, 2047, 2048]),
+        1 => random.pick(&[140, 255, 256, 257, 512, 1024]),
+        _ => random.within(128, 2048),
+    }
+}
+
+/// Entries of a sender's image.
+#[derive(Clone, Copy, Debug, Default)]
+pub struct SenderEntries {
+    pub frame_size: u16,
+    pub fill: u16,
+    pub next_number: u32,
+    pub begun: u8,
+    pub zeros: [u8; 3],
+    pub number: u32,
+    pub length: u16,
+    pub placed: u16,
+    pub next_index: u32,
+}
+
+impl SenderEntries {
+    pub fn image(&self) -> Vec<u8> {
+        let mut image = Vec::with_capacity(SENDER_IMAGE);
+        image.extend(self.frame_size.to_be_bytes());
+        image.extend(self.fill.to_be_bytes());
+        image.extend(self.next_number.to_be_bytes());
+        image.push(self.begun);
+        image.extend(self.zeros);
+        image.extend(self.number.to_be_bytes());
+        image.extend(self.length.to_be_bytes());
+        image.extend(self.placed.to_be_bytes());
+        image.extend(self.next_index.to_be_bytes());
+        image
+    }
+
+    pub fn idle(random: &mut Random) -> SenderEntries {
+        let size = frame_size(random);
+        let fill = match random.below(4) {
+            0 => 0,
+            1 => size - random.within(1, 20),
+            _ => random.below(size),
+        };
+        SenderEntries {
+            frame_size: size as u16,
+            fill: fill as u16,
+            next_number: first_number(random),
+            ..SenderEntries::default()
+        }
+    }
+
+    pub fn begun(random: &mut Random) -> SenderEntries {
+        let size = frame_size(random);
+        let length = random.edge_or_within(size - 3, CELL);
+        let placed = random.edge_or_within(1, length - 1);
+        let greatest = Self::greatest_index(size, length - placed);
+        let next_index = random.edge_or_within(1, greatest);
+        SenderEntries {
+            frame_size: size as u16,
+            fill: 0,
+            next_number: first_number(random),
+            begun: 1,
+            zeros: [0; 3],
+            number: first_number(random),
+            length: length as u16,
+            placed: placed as u16,
+            next_index: next_index as u32,
+        }
+    }
+
+    fn greatest_index(size: usize, remaining: usize) -> usize {
+        64 - remaining.div_ceil(size - 12)
+    }
+}
+
+/// The ways in which a sender's image is unsound or no state.
+pub const SENDER_DAMAGE: [&str; 17] = [
+    "length of the image",
+    "frame size below 128",
+    "frame size above 2,048",
+    "fill not below the frame size",
+    "flag above 1",
+    "octets 9 to 11 not zero",
+    "number with nothing begun",
+    "length with nothing begun",
+    "placed with nothing begun",
+    "index with nothing begun",
+    "fill with a transfer begun",
+    "length that goes whole",
+    "length above 4,096",
+    "nothing placed",
+    "all placed",
+    "index 0",
+    "index too great",
+];
+
+/// An image of a sender that must be refused, damaged in the way of that place in the list.
+pub fn unsound_sender(random: &mut Random, damage: usize) -> Vec<u8> {
+    let mut idle = SenderEntries::idle(random);
+    let mut begun = SenderEntries::begun(random);
+    let either = if random.once_in(2) { idle } else { begun };
+    let bit = 1u32 << random.below(32);
+    let short_bit = 1u16 << random.below(16);
+    let size = usize::from(begun.frame_size);
+    match damage {
+        0 => {
+            let mut image = either.image();
+            image.resize(random.pick(&[0, 1, 2, 23, 25, 3144]), 0);
+            image
+        }
+        1 => {
+            idle.frame_size = random.pick(&[0, 1, 12, 13, 100, 127]);
+            idle.fill = random.below(usize::from(idle.frame_size).max(1)) as u16;
+            idle.image()
+        }
+        2 => {
+            idle.frame_size = random.pick(&[2049, 2050, 4096, 65_535]);
+            idle.image()
+        }
+        3 => {
+            idle.fill = random.pick(&[idle.frame_size, idle.frame_size + 1, 65_535]);
+            idle.image()
+        }
+        4 => SenderEntries {
+            begun: random.within(2, 255) as u8,
+            ..either
+        }
+        .image(),
+        5 => {
+            let mut entries = either;
+            entries.zeros[random.below(3)] = random.within(1, 255) as u8;
+            entries.image()
+        }
+        6 => SenderEntries {
+            number: bit,
+            ..idle
+        }
+        .image(),
+        7 => SenderEntries {
+            length: short_bit,
+            ..idle
+        }
+        .image(),
+        8 => SenderEntries {
+            placed: short_bit,
+            ..idle
+        }
+        .image(),
+        9 => SenderEntries {
+            next_index: bit,
+            ..idle
+        }
+        .image(),
+        10 => {
+            begun.fill = random.within(1, size - 1) as u16;
+            begun.image()
+        }
+        11 => {
+            let length = random.edge_or_within(2, size - 4);
+            SenderEntries {
+                length: length as u16,
+                placed: random.within(1, length - 1) as u16,
+                next_index: 1,
+                ..begun
+            }
+            .image()
+        }
+        12 => {
+            begun.length = random.pick(&[4097, 4098, 8192, 65_535]);
+            begun.placed = begun.length - 1;
+            begun.next_index = 1;
+            begun.image()
+        }
+        13 => {
+            begun.placed = 0;
+            begun.next_index = 1;
+            begun.image()
+        }
+        14 => {
+            begun.placed = random.pick(&[begun.length, begun.length + 1, 65_535]);
+            begun.next_index = 1;
+            begun.image()
+        }
+        15 => {
+            begun.next_index = 0;
+            begun.image()
+        }
+        _ => {
+            let remaining = usize::from(begun.length - begun.placed);
+            let least = SenderEntries::greatest_index(size, remaining) as u32 + 1;
+            begun.next_index = random.pick(&[least, least + 1, 64, 65, 256, 1 << 31, u32::MAX]);
+            begun.next_index = begun.next_index.max(least);
+            begun.image()
+        }
+    }
+}

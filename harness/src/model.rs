@@ -1,0 +1,47 @@
+//! Receiver and sender of document 01 in plain Rust, written from that paper alone.
+//!
+//! The exported interface is compared with this model, and its speed is measured against it.
+
+pub mod image;
+pub mod interface;
+pub mod receiver;
+pub mod sender;
+pub mod wire;
+
+/// The cases of the paper's table of refusals.
+#[derive(Clone, Copy, Debug, PartialEq, Eq)]
+pub enum Refusal {
+    UnsoundState,
+    PoolOrOutputSize,
+    FrameLength,
+    /// The first bad message of the frame and its start.
+    Malformed(wire::Fault, usize),
+    BadPlace,
+    FrameBufferSize,
+    BundleLength,
+    OtherLength,
+    NothingBegun,
+    FrameSize,
+}
+
+impl Refusal {
+    /// The number in the paper's table.
+    pub fn number(self) -> u32 {
+        match self {
+            Refusal::UnsoundState => 1,
+            Refusal::PoolOrOutputSize => 2,
+            Refusal::FrameLength => 3,
+            Refusal::Malformed(wire::Fault::HeaderCut, _) => 4,
+            Refusal::Malformed(wire::Fault::ReservedFlag, _) => 5,
+            Refusal::Malformed(wire::Fault::LengthPastFrame, _) => 6,
+            Refusal::Malformed(wire::Fault::HintsPastMessage, _) => 7,
+            Refusal::Malformed(wire::Fault::ContentLength, _) => 8,
+            Refusal::BadPlace => 9,
+            Refusal::FrameBufferSize => 10,
+            Refusal::BundleLength => 11,
+            Refusal::OtherLength => 12,
+            Refusal::NothingBegun => 13,
+            Refusal::FrameSize => 14,
+        }
+    }
+}

@@ -1,0 +1,105 @@
+//! The model behind the same interface as the exported library: images in, numbers out.
+
+use super::receiver::{self, Observer};
+use super::sender::{self, Answer};
+use super::{image, Refusal};
+
+/// The transfer number of a bundle that came in a bundle message.
+pub const NO_NUMBER: u64 = 1 << 32;
+
+pub fn receiver_start(image: &mut [u8]) -> u32 {
+    match image.try_into() {
+        Ok(image) => {
+            receiver::State::start().encode(image);
+            0
+        }
+        Err(_) => Refusal::UnsoundState.number(),
+    }
+}
+
+pub fn receive(
+    image: &mut [u8],
+    pool: &mut [u8],
+    frame: &[u8],
+    place: u64,
+    output: &mut [u8],
+    result: &mut [u64; 4],
+    observer: &mut impl Observer,
+) -> u32 {
+    let Some(mut state) = receiver::State::decode(image) else {
+        return Refusal::UnsoundState.number();
+    };
+    match receiver::receive(&mut state, pool, frame, place, output, observer) {
+        Ok(answer) => {
+            match answer {
+                receiver::Answer::Finished => result[0] = 0,
+                receiver::Answer::Bundle {
+                    length,
+                    next,
+                    number,
+                } => {
+                    let number = number.map_or(NO_NUMBER, u64::from);
+                    *result = [1, length as u64, next as u64, number];
+                }
+            }
+            let image: &mut [u8; image::RECEIVER] = image.try_into().expect("it was decoded");
+            state.encode(image);
+            0
+        }
+        Err(refusal) => {
+            if let Refusal::Malformed(_, at) = refusal {
+                result[2] = at as u64;
+            }
+            refusal.number()
+        }
+    }
+}
+
+pub fn sender_start(image: &mut [u8], frame_size: u64, first_number: u32) -> u32 {
+    let Ok(image) = image.try_into() else {
+        return Refusal::UnsoundState.number();
+    };
+    match sender::State::start(frame_size, first_number) {
+        Ok(state) => {
+            state.encode(image);
+            0
+        }
+        Err(refusal) => refusal.number(),
+    }
+}
+
+pub fn place(image: &mut [u8], bundle: &[u8], frame: &mut [u8], result: &mut [u64; 4]) -> u32 {
+    send(image, result, |state| state.place(bundle, frame))
+}
+
+pub fn cancel(image: &mut [u8], frame: &mut [u8], result: &mut [u64; 4]) -> u32 {
+    send(image, result, |state| state.cancel(frame))
+}
+
+pub fn flush(image: &mut [u8], frame: &mut [u8], result: &mut [u64; 4]) -> u32 {
+    send(image, result, |state| state.flush(frame))
+}
+
+fn send(
+    image: &mut [u8],
+    result: &mut [u64; 4],
+    call: impl FnOnce(&mut sender::State) -> Result<Answer, Refusal>,
+) -> u32 {
+    let Some(mut state) = sender::State::decode(image) else {
+        return Refusal::UnsoundState.number();
+    };
+    match call(&mut state) {
+        Ok(answer) => {
+            result[0] = match answer {
+                Answer::Placed => 0,
+                Answer::PlacedAndReady => 1,
+                Answer::Ready => 2,
+                Answer::Nothing => 3,
+            };
+            let image: &mut [u8; image::SENDER] = image.try_into().expect("it was decoded");
+            state.encode(image);
+            0
+        }
+        Err(refusal) => refusal.number(),
+    }
+}

@@ -1,0 +1,111 @@
+//! Messages of a frame.
+
+pub const MAX_FRAME: usize = 2048;
+
+/// What makes a message malformed, in the order in which it is looked for.
+#[derive(Clone, Copy, Debug, PartialEq, Eq)]
+pub enum Fault {
+    HeaderCut,
+    ReservedFlag,
+    LengthPastFrame,
+    HintsPastMessage,
+    ContentLength,
+}
+
+#[derive(Clone, Copy, Debug, PartialEq, Eq)]
+pub enum Message<'a> {
+    /// Padding, or a type passed over by its length.
+    Passed,
+    Bundle(&'a [u8]),
+    /// A transfer segment or a transfer end.
+    Piece(Piece<'a>),
+    Cancel(u32),
+}
+
+#[derive(Clone, Copy, Debug, PartialEq, Eq)]
+pub struct Piece<'a> {
+    pub number: u32,
+    pub index: u32,
+    pub end: bool,
+    pub data: &'a [u8],
+}
+
+const BUNDLE: u8 = 2;
+const SEGMENT: u8 = 3;
+const END: u8 = 4;
+const CANCEL: u8 = 5;
+
+const HINTS: u8 = 0x80;
+const RESERVED: u8 = 0x70;
+
+/// Reads the message that starts at `at`, which must lie inside the frame, and the place after it.
+#[inline]
+pub fn read(frame: &[u8], at: usize) -> Result<(Message<'_>, usize), Fault> {
+    let rest = &frame[at..];
+    if rest[0] == 0 {
+        let run = rest.iter().take_while(|&&octet| octet == 0).count();
+        return Ok((Message::Passed, at + run));
+    }
+    let Some((&[kind, flags, high, low], rest)) = rest.split_first_chunk::<4>() else {
+        return Err(Fault::HeaderCut);
+    };
+    if flags & RESERVED != 0 {
+        return Err(Fault::ReservedFlag);
+    }
+    let length = u32::from_be_bytes([0, flags & 0x0f, high, low]) as usize;
+    let Some(body) = rest.get(..length) else {
+        return Err(Fault::LengthPastFrame);
+    };
+    let next = at + 4 + length;
+    if !(BUNDLE..=CANCEL).contains(&kind) {
+        return Ok((Message::Passed, next));
+    }
+    let content = if flags & HINTS == 0 {
+        body
+    } else {
+        after_hints(body).ok_or(Fault::HintsPastMessage)?
+    };
+    let message = match kind {
+        BUNDLE => Message::Bundle(content),
+        SEGMENT | END => {
+            let (number, rest) = content.split_first_chunk().ok_or(Fault::ContentLength)?;
+            let (index, data) = rest.split_first_chunk().ok_or(Fault::ContentLength)?;
+            Message::Piece(Piece {
+                number: u32::from_be_bytes(*number),
+                index: u32::from_be_bytes(*index),
+                end: kind == END,
+                data,
+            })
+        }
+        _ => {
+            let number = content.try_into().map_err(|_| Fault::ContentLength)?;
+            Message::Cancel(u32::from_be_bytes(number))
+        }
+    };
+    Ok((message, next))
+}
+
+/// What stands behind a chain of at least one hint, or nothing if the chain runs past the message.
+fn after_hints(mut rest: &[u8]) -> Option<&[u8]> {
+    loop {
+        let (&[kind, length], value) = rest.split_first_chunk::<2>()?;
+        rest = value.get(usize::from(length)..)?;
+        if kind & 1 == 0 {
+            return Some(rest);
+        }
+    }
+}
+
+/// Checks a whole frame; the answer is whether `place` is a good place in it.
+pub fn check(frame: &[u8], place: u64) -> Result<bool, (Fault, usize)> {
+    let mut good = place == frame.len() as u64;
+    let mut at = 0;
+    while at < frame.len() {
+        good |= place == at as u64;
+        at = match read(frame, at) {
+            Ok((_, next)) => next,
+            Err(fault) => return Err((fault, at)),
+        };
+    }
+    Ok(good)
+}

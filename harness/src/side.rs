@@ -1,0 +1,94 @@
+//! One interface for the two sides that are compared.
+
+use crate::ffi;
+use crate::model::interface;
+
+pub trait Side {
+    const NAME: &'static str;
+    fn receiver_start(state: &mut [u8]) -> u32;
+    fn receive(
+        state: &mut [u8],
+        pool: &mut [u8],
+        frame: &[u8],
+        place: u64,
+        output: &mut [u8],
+        result: &mut [u64; 4],
+    ) -> u32;
+    fn sender_start(state: &mut [u8], frame_size: u64, first_number: u32) -> u32;
+    fn place(state: &mut [u8], bundle: &[u8], frame: &mut [u8], result: &mut [u64; 4]) -> u32;
+    fn cancel(state: &mut [u8], frame: &mut [u8], result: &mut [u64; 4]) -> u32;
+    fn flush(state: &mut [u8], frame: &mut [u8], result: &mut [u64; 4]) -> u32;
+}
+
+pub struct Model;
+pub struct Exported;
+
+impl Side for Model {
+    const NAME: &'static str = "model";
+
+    fn receiver_start(state: &mut [u8]) -> u32 {
+        interface::receiver_start(state)
+    }
+
+    fn receive(
+        state: &mut [u8],
+        pool: &mut [u8],
+        frame: &[u8],
+        place: u64,
+        output: &mut [u8],
+        result: &mut [u64; 4],
+    ) -> u32 {
+        interface::receive(state, pool, frame, place, output, result, &mut ())
+    }
+
+    fn sender_start(state: &mut [u8], frame_size: u64, first_number: u32) -> u32 {
+        interface::sender_start(state, frame_size, first_number)
+    }
+
+    fn place(state: &mut [u8], bundle: &[u8], frame: &mut [u8], result: &mut [u64; 4]) -> u32 {
+        interface::place(state, bundle, frame, result)
+    }
+
+    fn cancel(state: &mut [u8], frame: &mut [u8], result: &mut [u64; 4]) -> u32 {
+        interface::cancel(state, frame, result)
+    }
+
+    fn flush(state: &mut [u8], frame: &mut [u8], result: &mut [u64; 4]) -> u32 {
+        interface::flush(state, frame, result)
+    }
+}
+
+impl Side for Exported {
+    const NAME: &'static str = "exported";
+
+    fn receiver_start(state: &mut [u8]) -> u32 {
+        ffi::receiver_start(state)
+    }
+
+    fn receive(
+        state: &mut [u8],
+        pool: &mut [u8],
+        frame: &[u8],
+        place: u64,
+        output: &mut [u8],
+        result: &mut [u64; 4],
+    ) -> u32 {
+        ffi::receive(state, pool, frame, place, output, result)
+    }
+
+    fn sender_start(state: &mut [u8], frame_size: u64, first_number: u32) -> u32 {
+        ffi::sender_start(state, frame_size, first_number)
+    }
+
+    fn place(state: &mut [u8], bundle: &[u8], frame: &mut [u8], result: &mut [u64; 4]) -> u32 {
+        ffi::place(state, bundle, frame, result)
+    }
+
+    fn cancel(state: &mut [u8], frame: &mut [u8], result: &mut [u64; 4]) -> u32 {
+        ffi::cancel(state, frame, result)
+    }
+
+    fn flush(state: &mut [u8], frame: &mut [u8], result: &mut [u64; 4]) -> u32 {
+        ffi::flush(state, frame, result)
+    }
+}

@@ -1,0 +1,100 @@
+//! The safe wrapper: the paper's marked cases, and what it answers otherwise.
+
+use harness::ffi::{Received, Receiver, Refused, Sender, Sent, MIN_OUTPUT};
+
+fn bundle(length: usize, next: u64, number: Option<u32>) -> Result<Received, Refused> {
+    Ok(Received::Bundle {
+        length,
+        next,
+        number,
+    })
+}
+
+fn refused(number: u32, at: u64) -> Result<Received, Refused> {
+    Err(Refused {
+        number,
+        at: Some(at),
+    })
+}
+
+#[test]
+fn marked_cases() {
+    let finished = Ok(Received::Finished);
+    let m4: &[u8] = &[4, 0, 0, 9, 0, 0, 0, 5, 0, 0, 0, 0, 0x41];
+    let cases: [(&[u8], _, &[u8]); 11] = [
+        (
+            &[2, 0, 0, 3, 0x41, 0x42, 0x43],
+            bundle(3, 7, None),
+            &[0x41, 0x42, 0x43],
+        ),
+        (&[0, 0, 0], finished, &[]),
+        (&[1, 0, 0, 0], finished, &[]),
+        (m4, bundle(1, 13, Some(5)), &[0x41]),
+        (
+            &[2, 0x80, 0, 5, 2, 1, 0xff, 0x41, 0x42],
+            bundle(2, 9, None),
+            &[0x41, 0x42],
+        ),
+        (&[2, 0x10, 0, 0], refused(5, 0), &[]),
+        (&[2, 0, 0, 4, 0x41], refused(6, 0), &[]),
+        (&[3, 0, 0], refused(4, 0), &[]),
+        (&[2, 0x80, 0, 1, 2], refused(7, 0), &[]),
+        (&[5, 0, 0, 3, 0, 0, 0], refused(8, 0), &[]),
+        (&[0, 2, 0, 0, 0], bundle(0, 5, None), &[]),
+    ];
+    for (frame, expected, octets) in cases {
+        let mut receiver = Receiver::start();
+        let mut output = [0xee; MIN_OUTPUT];
+        assert_eq!(receiver.receive(frame, 0, &mut output), expected);
+        assert_eq!(&output[..octets.len()], octets);
+        assert!(output[octets.len()..].iter().all(|&octet| octet == 0xee));
+    }
+
+    let mut receiver = Receiver::start();
+    let mut output = [0xee; MIN_OUTPUT];
+    let cancel = [5, 0, 0, 4, 0, 0, 0, 5];
+    assert_eq!(receiver.receive(&cancel, 0, &mut output), finished);
+    assert_eq!(receiver.receive(m4, 0, &mut output), finished);
+}
+
+#[test]
+fn refusals_without_a_place() {
+    let mut receiver = Receiver::start();
+    let mut output = [0; MIN_OUTPUT];
+    let without = |number| Err(Refused { number, at: None });
+    assert_eq!(receiver.receive(&[0], 0, &mut output[1..]), without(2));
+    assert_eq!(receiver.receive(&[], 0, &mut output), without(3));
+    assert_eq!(receiver.receive(&[0], 2, &mut output), without(9));
+    receiver.image[1] = 1;
+    assert_eq!(receiver.receive(&[0], 0, &mut output), without(1));
+}
+
+#[test]
+fn pieces_by_program() {
+    let mut sender = Sender::start(128, 0).unwrap();
+    let octets = |length: usize| vec![0x55; length];
+    let header = |sender: &Sender, at: usize| sender.frame[at..at + 4].to_vec();
+    assert_eq!(sender.place(&octets(300)), Ok(Sent::PlacedAndReady));
+    assert_eq!(header(&sender, 0), [3, 0, 0, 8 + 116]);
+    assert_eq!(sender.place(&octets(300)), Ok(Sent::PlacedAndReady));
+    assert_eq!(header(&sender, 0), [3, 0, 0, 8 + 116]);
+    assert!(sender.is_begun());
+    assert_eq!(sender.place(&octets(300)), Ok(Sent::Placed));
+    assert_eq!(header(&sender, 0), [4, 0, 0, 8 + 68]);
+    assert!(!sender.is_begun());
+    let (image, frame) = (sender.image, sender.frame.clone());
+    assert_eq!(sender.place(&octets(44)), Ok(Sent::PlacedAndReady));
+    (sender.image, sender.frame) = (image, frame);
+    assert_eq!(sender.place(&octets(45)), Ok(Sent::Ready));
+    assert_eq!(header(&sender, 80), [1, 0, 0, 44]);
+    assert_eq!(sender.place(&octets(124)), Ok(Sent::PlacedAndReady));
+    assert_eq!(header(&sender, 0), [2, 0, 0, 124]);
+    assert_eq!(sender.flush(), Ok(Sent::Nothing));
+    assert_eq!(sender.place(&octets(125)), Ok(Sent::PlacedAndReady));
+    assert_eq!(header(&sender, 0), [3, 0, 0, 8 + 116]);
+    assert_eq!(sender.cancel(), Ok(Sent::Placed));
+    assert_eq!(sender.frame[..8], [5, 0, 0, 4, 0, 0, 0, 1]);
+    assert_eq!(sender.cancel().unwrap_err().number, 13);
+    assert_eq!(sender.flush(), Ok(Sent::Ready));
+    assert_eq!(Sender::start(127, 0).err().unwrap().number, 14);
+}

@@ -1,0 +1,185 @@
+/*
+ * btpu.h - bundle transfer over frames: receiver and sender
+ *
+ * A frame is one link-layer PDU of 1 to 2,048 octets. A sender fills frames with bundles, whole
+ * or in pieces; a receiver takes frames, in any order and with losses, and hands the bundles out.
+ *
+ * Memory. The library allocates nothing and keeps nothing. The caller lends every octet for the
+ * time of a call: the image of the state, the pool, the frame, the output. What is lent must be
+ * valid for the length given, and what a call may write to must not overlap with anything else
+ * that is lent to it. No pointer may be NULL, also not with a length of 0. Calls with different
+ * images and buffers may run at the same time.
+ *
+ * Answers. Every function returns 0, or the number of a refusal (BTPU_REFUSED_...). The first
+ * refusal that applies, in the order of the numbers, is given. A refused call changes nothing
+ * that was lent, with one exception: refusals 4 to 8 write the place of the bad message to
+ * result[BTPU_PLACE]. Entries of `result` that carry no meaning for an answer stay as they were.
+ *
+ * Images. The state of a receiver or a sender is an image of a fixed number of octets. Let
+ * btpu_receiver_start or btpu_sender_start write it first, and hand it back as it was left. It may
+ * be stored and used again later, together with the receiver's pool, or the sender's frame. All
+ * numbers in an image are big-endian. A call refuses an image that is not a sound state.
+ *
+ * Receiver image, BTPU_RECEIVER_IMAGE octets:
+ *
+ *     octet    0        1 if a greatest transfer number is known, else 0
+ *     octets   1 to 3   zero
+ *     octets   4 to 7   the greatest transfer number so far; zero if none is known
+ *     then, for each of 16 rows, 196 octets; transfer number n has row n modulo 16:
+ *       octet  0        phase: 0 Free, 1 Open, 2 Done, 3 Cancelled, 4 Given up
+ *       octet  1        1 if the index of the last piece is known, else 0
+ *       octet  2        the index of the last piece; zero if it is not known
+ *       octet  3        number of pieces held
+ *       octets 4 to 67  the index of each piece held, in order of arrival; then zeros
+ *       octets 68 to 195  the length of each piece held, two octets each; then zeros
+ *     In a row that is not Open all octets after the phase are zero.
+ *
+ * The data of row r lie in the pool from octet 4,096 times r on, in order of arrival.
+ *
+ * Sender image, BTPU_SENDER_IMAGE octets:
+ *
+ *     octets   0 to 1   frame size
+ *     octets   2 to 3   fill: octets of the current frame that are written
+ *     octets   4 to 7   number of the next transfer
+ *     octet    8        1 if a transfer is begun, else 0
+ *     octets   9 to 11  zero
+ *     octets  12 to 15  number of the transfer begun
+ *     octets  16 to 17  length of its bundle
+ *     octets  18 to 19  octets of it that are placed
+ *     octets  20 to 23  index of its next piece
+ *     Octets 12 to 23 are zero if no transfer is begun.
+ */
+#ifndef BTPU_H
+#define BTPU_H
+
+#include <stddef.h>
+#include <stdint.h>
+
+#ifdef __cplusplus
+extern "C" {
+#endif
+
+/* Sizes in octets */
+
+#define BTPU_RECEIVER_IMAGE 3144
+#define BTPU_SENDER_IMAGE 24
+#define BTPU_POOL 65536
+#define BTPU_MIN_OUTPUT 4096
+#define BTPU_MAX_BUNDLE 4096
+#define BTPU_MAX_FRAME 2048
+#define BTPU_MIN_FRAME_SIZE 128
+#define BTPU_MAX_FRAME_SIZE 2048
+
+/* The sender's image: where the flag stands that tells whether a transfer is begun */
+
+#define BTPU_SENDER_BEGUN 8
+
+/* Entries of a result */
+
+#define BTPU_RESULT 4
+
+#define BTPU_ANSWER 0 /* which answer: BTPU_FINISHED and so on */
+#define BTPU_LENGTH 1 /* of a bundle: its length in the output */
+#define BTPU_PLACE 2  /* of a bundle: the next place; of refusals 4 to 8: the bad message's start */
+#define BTPU_NUMBER 3 /* of a bundle: its transfer number, or BTPU_NO_NUMBER */
+
+/* Answers of btpu_receive */
+
+#define BTPU_FINISHED 0
+#define BTPU_BUNDLE 1
+
+/* The transfer number of a bundle that came in one message, outside of any transfer */
+
+#define BTPU_NO_NUMBER UINT64_C(4294967296)
+
+/* Answers of btpu_place, btpu_cancel and btpu_flush */
+
+#define BTPU_PLACED 0           /* a message was added to the frame */
+#define BTPU_PLACED_AND_READY 1 /* a message was added, and the frame is full: send it */
+#define BTPU_READY 2            /* the frame was closed by padding: send it; nothing was placed */
+#define BTPU_NOTHING 3          /* there was nothing to flush */
+
+/* Refusals */
+
+#define BTPU_REFUSED_STATE 1         /* all calls: not a sound state, or an image of wrong length */
+#define BTPU_REFUSED_LENT 2          /* receive: pool not 65,536 octets, or output below 4,096 */
+#define BTPU_REFUSED_FRAME_LENGTH 3  /* receive: frame of 0 or more than 2,048 octets */
+#define BTPU_REFUSED_HEADER 4        /* receive: fewer than 4 octets left for a header */
+#define BTPU_REFUSED_FLAG 5          /* receive: a reserved flag bit is set */
+#define BTPU_REFUSED_LENGTH 6        /* receive: a length runs past the frame */
+#define BTPU_REFUSED_HINTS 7         /* receive: a chain of hints runs past its message */
+#define BTPU_REFUSED_CONTENT 8       /* receive: content of a transfer message too short, or of a
+                                        cancel not 4 octets */
+#define BTPU_REFUSED_PLACE 9         /* receive: not a good place */
+#define BTPU_REFUSED_FRAME_BUFFER 10 /* place, cancel, flush: frame buffer not of the frame size */
+#define BTPU_REFUSED_BUNDLE 11       /* place: bundle of 0 or more than 4,096 octets */
+#define BTPU_REFUSED_OTHER_LENGTH 12 /* place: not the length of the transfer begun */
+#define BTPU_REFUSED_NOT_BEGUN 13    /* cancel: no transfer is begun */
+#define BTPU_REFUSED_FRAME_SIZE 14   /* sender's start: frame size outside 128 to 2,048 */
+
+/*
+ * Writes the image of a fresh receiver. The old content of the image does not matter.
+ * Refusal: 1 if state_len is not BTPU_RECEIVER_IMAGE.
+ */
+uint32_t btpu_receiver_start(uint8_t *state, size_t state_len);
+
+/*
+ * Treats the messages of a frame from `place` on, up to the first bundle handed out.
+ *
+ * The whole frame is checked first; a frame with a bad message anywhere has no effect at all.
+ * Good places are 0, the start of each message and frame_len. To take a frame to its end, call
+ * with place 0, then with each next place answered, until the answer is BTPU_FINISHED.
+ *
+ * Answers, in result[BTPU_ANSWER]:
+ *   BTPU_BUNDLE    the first result[BTPU_LENGTH] octets of the output are a bundle, the others
+ *                  stay; result[BTPU_PLACE] is the next place, result[BTPU_NUMBER] the transfer
+ *                  number or BTPU_NO_NUMBER. A bundle may have length 0.
+ *   BTPU_FINISHED  no bundle up to the frame's end; output and other entries of result stay.
+ *
+ * The pool has BTPU_POOL octets, of any content at first, and belongs to this receiver: hand it
+ * back as it was left. The output has at least BTPU_MIN_OUTPUT octets.
+ * Refusals: 1 to 9.
+ */
+uint32_t btpu_receive(uint8_t *state, size_t state_len, uint8_t *pool, size_t pool_len,
+                      const uint8_t *frame, size_t frame_len, uint64_t place, uint8_t *output,
+                      size_t output_len, uint64_t result[BTPU_RESULT]);
+
+/*
+ * Writes the image of a fresh sender with frames of frame_size octets, whose first transfer has
+ * the number first_number. The old content of the image does not matter.
+ * Refusals: 1 if state_len is not BTPU_SENDER_IMAGE; 14.
+ */
+uint32_t btpu_sender_start(uint8_t *state, size_t state_len, uint64_t frame_size,
+                           uint32_t first_number);
+
+/*
+ * Adds at most one message with octets of the bundle to the frame, or closes the frame.
+ *
+ * Call it with the same bundle until the bundle is at its end: that is after BTPU_PLACED or
+ * BTPU_PLACED_AND_READY with state[BTPU_SENDER_BEGUN] 0. After BTPU_PLACED_AND_READY and
+ * BTPU_READY the frame buffer holds a frame to send, before the next call.
+ * The frame buffer has exactly frame-size octets; hand it back as it was left.
+ * Refusals: 1, 10, 11, 12.
+ */
+uint32_t btpu_place(uint8_t *state, size_t state_len, const uint8_t *bundle, size_t bundle_len,
+                    uint8_t *frame, size_t frame_len, uint64_t result[BTPU_RESULT]);
+
+/*
+ * Gives up the transfer begun and adds a cancel for it to the frame. Answer: BTPU_PLACED.
+ * Refusals: 1, 10, 13.
+ */
+uint32_t btpu_cancel(uint8_t *state, size_t state_len, uint8_t *frame, size_t frame_len,
+                     uint64_t result[BTPU_RESULT]);
+
+/*
+ * Closes a frame that is begun. Answers: BTPU_READY, or BTPU_NOTHING if the frame is empty.
+ * Refusals: 1, 10.
+ */
+uint32_t btpu_flush(uint8_t *state, size_t state_len, uint8_t *frame, size_t frame_len,
+                    uint64_t result[BTPU_RESULT]);
+
+#ifdef __cplusplus
+}
+#endif
+
+#endif
