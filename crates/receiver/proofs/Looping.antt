@@ -36,7 +36,7 @@ use Rattle.reassembly.specs.declared.Taken.{Taken}
 use Rattle.reassembly.proofs.Kept.{Shaped}
 use Rattle.receiver.specs.Message.{Draft, draft02, Board, Handed, Outcome, handedOf, cellAt, putCell, step}
 use Rattle.receiver.specs.Receive.{Reply, delivered, treat, messagesFrom}
-use Rattle.receiver.specs.Run.{Run, begun, visitOf, found, admits, rowStep, size, progressed, advanced, roomy, run, answerOf}
+use Rattle.receiver.specs.Run.{Run, visitOf, found, admits, rowStep, size, progressed, advanced, roomy, run, answerOf}
 use Rattle.receiver.specs.declared.Origin.{Origin}
 use Rattle.receiver.specs.declared.Progress.{Progress}
 use Rattle.receiver.specs.declared.Visit.{Visit}
@@ -221,15 +221,16 @@ module _ (limit : ℕ) (frame : List ℕ) (p₀ : Run) (is₀ : List Item) (n : 
     turned x e = subst Turned (sym e) turned-here
 
 -- the loop begins
-pub begins : (limit : ℕ) (frame : List ℕ) (place : ℕ) (b : Board) (output : List ℕ) → checked read frame place ≡ Accepted → Sound windowSize b → b .state .greatest < 2 ^ 32
-    → Going limit frame (begun b output place) (messagesFrom draft02 frame place) (length output) (begun b output place)
+pub begins : (limit : ℕ) (frame : List ℕ) (p : Run) → checked read frame (p .progress .next) ≡ Accepted → Sound windowSize (p .board) → p .board .state .greatest < 2 ^ 32 → p .progress .used ≤ length (p .output)
+    → Going limit frame p (messagesFrom draft02 frame (p .progress .next)) (length (p .output)) p
 unfolding messagesFrom
-begins limit frame place b output accepted ready low =
+begins limit frame p accepted ready low used =
+    let place : ℕ = p .progress .next in
     let t = taken read sized frame place accepted in
     let here : scanAt read frame place ≡ row (from place (t .items)) = resume read sized frame place (t .items) (t .whole) (t .good-place) in
     let left′ : items (scanAt read frame place) ≡ from place (t .items) = items-row (from place (t .items)) here in
     let all : items (scanned read frame) ≡ t .items = items-row (t .items) (t .whole) in
-    record { same = rw (all, left′); here = rw left′ here; ready = ready; low = low; output = refl; used = omega arith }
+    record { same = rw (all, left′); here = rw left′ here; ready = ready; low = low; output = refl; used = used }
 
 -- the loop ends: no message is left, or the limits are reached
 stops : (limit : ℕ) (p : Run) (is : List Item) → roomy (p .progress) limit (length (p .output)) ≡ false → run windowSize false limit p is ≡ p

@@ -77,8 +77,8 @@ pub record Run : Type 0 where
   pub output : List ℕ
   pub progress : Progress
 
-abbrev pub begun : Board → List ℕ → ℕ → Run
-begun b output place = record { board = b; output = output; progress = record { count = 0; used = 0; next = place; origin = Whole } }
+abbrev pub going : Board → List ℕ → Progress → Run
+going b output progress = record { board = b; output = output; progress = progress }
 
 -- as the code answers it
 abbrev pub ran : Ran → List ℕ → List ℕ → Run

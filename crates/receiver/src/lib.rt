@@ -321,30 +321,24 @@ fn more(p: Progress, limit: usize, frame: usize, output: usize) -> bool
     (p.next < frame) & ((p.count < limit) & (BUNDLE_MAX <= output - p.used))
 }
 
-// Treats the messages from a place on, until `limit` bundles are out or the output lacks room for a further one.
+// Goes on from a progress with the messages of a frame, until `limit` bundles are out or the output lacks room for a further one.
 fn run(
     state: State,
     pool: &mut [u8],
     frame: &[u8],
-    place: usize,
+    from: Progress,
     output: &mut [u8],
     limit: usize,
 ) -> Ran
-    requires { ⌜ (Spec.sound state ≡ true) × (length (now pool) ≡ windowSize * bundleMax) × (length (now frame) ≤ Call.frameMax) × (checked read (now frame) place ≡ Frame.Accepted) ⌝ }
-    ensures { λ r. ⌜ Loop.ran r (now (pool .exit)) (now (output .exit)) ≡ Loop.run windowSize false limit (Loop.begun (record { state = state; pool = now (pool .entry) }) (now (output .entry)) place) (Call.messagesFrom draft02 (now (frame .entry)) place) ⌝ }
+    requires { ⌜ (Spec.sound state ≡ true) × (length (now pool) ≡ windowSize * bundleMax) × (length (now frame) ≤ Call.frameMax) × (checked read (now frame) (from .next) ≡ Frame.Accepted) × (from .used ≤ length (now output)) ⌝ }
+    ensures { λ r. ⌜ Loop.ran r (now (pool .exit)) (now (output .exit)) ≡ Loop.run windowSize false limit (Loop.going (record { state = state; pool = now (pool .entry) }) (now (output .entry)) from) (Call.messagesFrom draft02 (now (frame .entry)) (from .next)) ⌝ }
 {
     let mut present = state.present;
     let mut greatest = state.greatest;
     let mut rows = state.rows;
-    let mut progress = Progress {
-        count: 0,
-        used: 0,
-        next: place,
-        origin: Origin::Whole,
-    };
+    let mut progress = from;
     while more(progress, limit, frame.len(), output.len()) {
-        let at = progress.next;
-        let r = wire::read_message(frame, at);
+        let r = wire::read_message(frame, progress.next);
         let Reading::Good(m) = r else {
             break;
         };
@@ -451,7 +445,13 @@ pub fn receive(
             state,
         };
     }
-    let r = run(state, pool, frame, place, output, 1);
+    let first = Progress {
+        count: 0,
+        used: 0,
+        next: place,
+        origin: Origin::Whole,
+    };
+    let r = run(state, pool, frame, first, output, 1);
     let progress = r.progress;
     let next = r.state;
     Received {

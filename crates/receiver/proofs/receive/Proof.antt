@@ -1,5 +1,6 @@
 -- `receiver::receive` meets its contract.
 use mathlib.Core.Path.{sym, ap, _∙_}
+use native.Mathlib.Omega.{arith}
 use borrow.Author.Needs.{needs}
 use Rattle.window.specs.Window.{windowSize}
 use Rattle.receiver.specs.Message.{Board, draft02}
@@ -36,7 +37,7 @@ run-requires c κs =
     let a = c .before .before .before .before .before .before .before .before .before .before .args in
     let b : Board = record { state = a .state; pool = a .pool .now } in
     let f = admits draft02 windowSize b (a .frame .now) (a .place) (a .output .now) (admitted (refusal draft02 windowSize b (a .frame .now) (a .place) (a .output .now)) (sym (c .before .before .before .before .admit .ensures) ∙ c .before .before .enum-told .given .1)) in
-    (f .state, f .pool, f .small, f .accepted)
+    (f .state, f .pool, f .small, f .accepted, omega arith)
 
 answer-of-requires : tie.Need-answer-of-requires
 answer-of-requires c κs = search needs

@@ -25,7 +25,7 @@ use Rattle.reassembly.specs.declared.Taken.{Taken}
 use Rattle.reassembly.proofs.Kept.{Shaped}
 use Rattle.receiver.specs.Message.{draft02}
 use Rattle.receiver.specs.Receive.{messagesFrom}
-use Rattle.receiver.specs.Run.{rowStep, progressed, size as delivery-size, admits, found, visitOf, Run, roomy, begun}
+use Rattle.receiver.specs.Run.{rowStep, progressed, size as delivery-size, admits, found, visitOf, Run, roomy, going}
 use Rattle.receiver.specs.declared.Origin.{Origin}
 use Rattle.receiver.specs.declared.Progress.{Progress}
 use Rattle.receiver.specs.declared.Visit.{Visit}
@@ -37,12 +37,12 @@ use Rattle.receiver.proofs.run.Statement.{statement}
 use Rattle.receiver.proofs.run.Tie as tie
 
 abbrev Inv-loop : tie.InvT-loop
-Inv-loop pool₀ frame place output₀ limit present₀ greatest₀ rows₀ progress₀ pool output present greatest rows progress =
-    Going limit frame (begun (record { state = record { present = present₀; greatest = greatest₀; rows = rows₀ }; pool = pool₀ }) output₀ place) (messagesFrom draft02 frame place) (length output₀)
+Inv-loop pool₀ frame output₀ limit present₀ greatest₀ rows₀ progress₀ pool output present greatest rows progress =
+    Going limit frame (going (record { state = record { present = present₀; greatest = greatest₀; rows = rows₀ }; pool = pool₀ }) output₀ progress₀) (messagesFrom draft02 frame (progress₀ .next)) (length output₀)
     (record { board = record { state = record { present = present; greatest = greatest; rows = rows }; pool = pool }; output = output; progress = progress })
 
 abbrev μ-loop : tie.MeasureT-loop
-μ-loop pool₀ frame place output₀ limit present₀ greatest₀ rows₀ progress₀ pool output present greatest rows progress = length frame - progress .next
+μ-loop pool₀ frame output₀ limit present₀ greatest₀ rows₀ progress₀ pool output present greatest rows progress = length frame - progress .next
 
 full : (c : tie.Start Inv-loop μ-loop) → length (c .args .state .rows) ≡ 16
 full c = search (needs, length-mapped)
@@ -61,13 +61,13 @@ module _ (c : tie.After-known-told Inv-loop μ-loop) where
       record { board = record { state = record { present = l .present; greatest = l .greatest; rows = l .rows }; pool = l .pool }; output = l .output; progress = l .progress }
 
   abbrev first : Run
-  first = let a = c .before .before .before .before .before .before .before .before .before .before .before .args in begun (record { state = a .state; pool = a .pool .now }) (a .output .now) (a .place)
+  first = let a = c .before .before .before .before .before .before .before .before .before .before .before .args in going (record { state = a .state; pool = a .pool .now }) (a .output .now) (a .from)
 
   abbrev frame : List ℕ
   frame = c .before .before .before .before .before .before .before .before .before .before .before .args .frame .now
 
   abbrev items : List Item
-  items = messagesFrom draft02 frame (c .before .before .before .before .before .before .before .before .before .before .before .args .place)
+  items = messagesFrom draft02 frame (c .before .before .before .before .before .before .before .before .before .before .before .args .from .next)
 
   abbrev size : ℕ
   size = length (c .before .before .before .before .before .before .before .before .before .before .before .args .output .now)
@@ -152,7 +152,11 @@ low-after : (c : tie.After-found Inv-loop μ-loop) → c .before .before .before
 low-after c = search needs
 
 loop-holds : tie.Need-loop-holds Inv-loop μ-loop
-loop-holds c = let a = c .before .before .before .before .args in begins (a .limit) (a .frame .now) (a .place) (record { state = a .state; pool = a .pool .now }) (a .output .now) (c .before .before .before .before .pre .3) (record { sound = c .before .before .before .before .pre .0; rows = full (c .before .before .before .before); pool = c .before .before .before .before .pre .1 }) (low (c .before .before .before .before))
+loop-holds c =
+    let a = c .before .before .before .before .args in
+    let p = c .before .before .before .before .pre in
+    begins (a .limit) (a .frame .now) (going (record { state = a .state; pool = a .pool .now }) (a .output .now) (a .from)) (p .3)
+    (record { sound = p .0; rows = full (c .before .before .before .before); pool = p .1 }) (low (c .before .before .before .before)) (p .4)
 
 more-requires : tie.Need-more-requires Inv-loop μ-loop
 more-requires c κs = let g = c .loop .inv in omega (arith, g .output, g .used)
@@ -256,7 +260,7 @@ returns : tie.Need-returns Inv-loop μ-loop
 returns c =
     let l = c .before .before .loop in
     let a = c .before .before .before .before .before .before .before .args in
-    ends (a .limit) (a .frame .now) (begun (record { state = a .state; pool = a .pool .now }) (a .output .now) (a .place)) (messagesFrom draft02 (a .frame .now) (a .place)) (length (a .output .now))
+    ends (a .limit) (a .frame .now) (going (record { state = a .state; pool = a .pool .now }) (a .output .now) (a .from)) (messagesFrom draft02 (a .frame .now) (a .from .next)) (length (a .output .now))
     (record { board = record { state = record { present = l .present; greatest = l .greatest; rows = l .rows }; pool = l .pool }; output = l .output; progress = l .progress })
     (l .inv) (sym (c .before .more .ensures) ∙ c .if1 .left)
 
@@ -270,7 +274,7 @@ returns-2 : tie.Need-returns-2 Inv-loop μ-loop
 returns-2 c =
     let l = c .before .before .before .before .before .loop in
     let a = c .before .before .before .before .before .before .before .before .before .before .args in
-    never-bad (a .limit) (a .frame .now) (begun (record { state = a .state; pool = a .pool .now }) (a .output .now) (a .place)) (messagesFrom draft02 (a .frame .now) (a .place)) (length (a .output .now))
+    never-bad (a .limit) (a .frame .now) (going (record { state = a .state; pool = a .pool .now }) (a .output .now) (a .from)) (messagesFrom draft02 (a .frame .now) (a .from .next)) (length (a .output .now))
     (record { board = record { state = record { present = l .present; greatest = l .greatest; rows = l .rows }; pool = l .pool }; output = l .output; progress = l .progress })
     (l .inv) (sym (c .before .before .before .before .more .ensures) ∙ c .before .before .before .if1 .taken) _ (sym (c .before .before .read-message .ensures) ∙ c .enum-told .given .1)
 
