@@ -1,4 +1,4 @@
--- The proof of demand 3, laws that its premises can be met, and the marked cases.
+-- The proofs of demands 2 and 3, laws that their premises can be met, and the marked cases.
 --     Held            indexes held, with one more, and the weight of those that lack
 --     Track           one record's transfers on one board: a small machine, number by number
 --     Pieces          the row of one number, and its track
@@ -9,6 +9,15 @@
 --     Ahead           two courses: the second is ahead of the first, number by number
 --     MoreReception   demand 3
 --     Examples        a gain, and the loss where a premise fails
+--     Carries         rows of messages that carry bundles, several transfers begun at a time
+--     InOrder         the row of a number whose pieces come in order
+--     Behind          numbers up to the window's size behind the next, and their rows
+--     Carried         the receiver's half of demand 2: a fresh board hands out what a row of messages carries
+--     Framed          octets that are a row of messages
+--     Flows           the messages that a sender has written, for the entries of its state
+--     Sending         the sender's half: the frames of a use carry the bundles placed to their end
+--     EndToEnd        demand 2
+--     Uses            a use of a sender, computed
 --     Marked          the marked cases, computed
 pub mod Held
 pub mod Track
@@ -20,4 +29,13 @@ pub mod Given
 pub mod Ahead
 pub mod MoreReception
 pub mod Examples
+pub mod Carries
+pub mod InOrder
+pub mod Behind
+pub mod Carried
+pub mod Framed
+pub mod Flows
+pub mod Sending
+pub mod EndToEnd
+pub mod Uses
 pub mod Marked

@@ -26,14 +26,14 @@ use Rattle.claims.proofs.Track.{Track, live, whole, stopped, add, settl
 
 -- ---- lists with one entry more
 
-join-snoc : (falling : Bool) (xs : List (List ℕ)) (y : List ℕ) → join falling (xs ++ y ∷ []) ≡ cond falling (y ++ join falling xs) (join falling xs ++ y)
+pub join-snoc : (falling : Bool) (xs : List (List ℕ)) (y : List ℕ) → join falling (xs ++ y ∷ []) ≡ cond falling (y ++ join falling xs) (join falling xs ++ y)
 unfolding join
 join-snoc true [] y = sym (append-nil y)
 join-snoc false [] y = append-nil y
 join-snoc true (x ∷ xs) y = rw (join-snoc true xs y) (append-assoc y (join true xs) x)
 join-snoc false (x ∷ xs) y = rw (join-snoc false xs y) (sym (append-assoc x (join false xs) y))
 
-sum-append : (xs ys : List ℕ) → sumOf (xs ++ ys) ≡ sumOf xs + sumOf ys
+pub sum-append : (xs ys : List ℕ) → sumOf (xs ++ ys) ≡ sumOf xs + sumOf ys
 unfolding sumOf
 sum-append [] ys = omega arith
 sum-append (x ∷ xs) ys = omega (arith, sum-append xs ys)

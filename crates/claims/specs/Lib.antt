@@ -2,3 +2,5 @@ pub mod Record
 pub mod Calls
 pub mod Demand3
 pub mod Marked
+pub mod Use
+pub mod Demand2
