@@ -1,22 +1,27 @@
--- A receiver's state that was written to an image reads back, so a host can keep the image over a restart.
-use mathlib.Core.Bool.{Bool, true, false}
+-- A receiver's state that was written to an image reads back, so a host can keep the image over a restart. Sound states fit an image.
+use mathlib.Core.Bool.{Bool, true, false, _||_}
+use mathlib.Core.Logic.{⊎-elim}
 use mathlib.Core.List.{List, [], _∷_, _++_, append-assoc, append-nil}
 use mathlib.Core.Path.{_≡_, refl}
-use Prim.Native.Nat.{ℕ, zero, suc, _*_, _%_, _<_, _^_}
+use Prim.Native.Nat.{ℕ, zero, suc, _+_, _-_, _*_, _%_, _≤_, _<_, _^_}
 use native.Mathlib.Omega.{arith}
-use lib.Dec.{eqb, leb}
+use lib.Dec.{eqb, leb, ltb}
 use lib.ListN.{length, getD, take, drop}
-use lib.Seq.{take-at, drop-at}
-use borrow.Author.Tests.{eq-eqb}
+use lib.Seq.{take-at, drop-at, getD-take, getD-drop}
+use borrow.Author.Tests.{eq-eqb, eqb-true, ltb-true, ltb-false}
 use Rattle.octets.specs.Octets.{be16, be32}
-use Rattle.octets.proofs.Flags.{and}
+use Rattle.octets.proofs.Flags.{bool, and, both}
 use Rattle.octets.proofs.Numbers.{number-be32, number16-be16}
 use Rattle.window.specs.Window.{windowSize}
 use Rattle.reassembly.specs.declared.Phase.{Phase}
 use Rattle.reassembly.specs.declared.Phase.the-variants.{Free, Open, Done, Cancelled, Abandoned}
 use Rattle.reassembly.specs.declared.Row.{Row}
+use Rattle.reassembly.specs.Row.{bundleMax, sumOf, isZeros, lengthsOf, soundRow}
 use Rattle.reassembly.proofs.Kept.{Shaped}
+use Rattle.reassembly.proofs.Sound.{sound-facts}
 use Rattle.receiver.specs.declared.State.{State}
+use Rattle.receiver.specs.State.{soundRows, sound}
+use Rattle.receiver.proofs.Rows.{sound-get}
 use Rattle.board.specs.Receiver.{imageSize, rowSize, phaseOf, isRow, pairs, rowOf, areRows, rowsOf, isImage, stateOf, phaseCode, flag, spread, rowImage, rowsImage, imageOf}
 use Rattle.board.proofs.Rows.{length-row}
 use Rattle.board.proofs.Series.{length-items}
@@ -117,3 +122,45 @@ image-of-is s f =
     let rows : areRows windowSize (rowsImage (s .rows)) ≡ true = rw append-nil at (are-rows-back [] (s .rows) windowSize (f .full) (f .rows)) in
     let size : length (imageOf s) ≡ imageSize = omega (arith, length-rows (s .rows) (f .rows), f .full) in
     rw (eq-eqb _ _ size, flag-low (s .present), rows)
+
+-- ---- sound states
+
+sum-at : (ns : List ℕ) (k : ℕ) → getD ns k 0 ≤ sumOf ns
+unfolding sumOf
+sum-at [] k = omega arith
+sum-at (n ∷ ns) zero = omega arith
+sum-at (n ∷ ns) (suc k) = omega (arith, sum-at ns k)
+
+zeros-at : (ns : List ℕ) (k : ℕ) → isZeros ns ≡ true → getD ns k 0 ≡ 0
+unfolding isZeros
+zeros-at [] k e = refl
+zeros-at (n ∷ ns) zero e = eqb-true n 0 (both (eqb n 0) (isZeros ns) e .0)
+zeros-at (n ∷ ns) (suc k) e = zeros-at ns k (both (eqb n 0) (isZeros ns) e .1)
+
+low-lengths : (h : ℕ) (ns : List ℕ) → sumOf (take h ns) ≤ bundleMax → isZeros (drop h ns) ≡ true → (k : ℕ) → getD ns k 0 < 2 ^ 16
+low-lengths h ns sum zeros k = ⊎-elim held past (bool (ltb k h))
+  where
+    held : ltb k h ≡ true → getD ns k 0 < 2 ^ 16
+    held l = omega (arith, getD-take h ns k 0 (ltb-true k h l), sum-at (take h ns) k)
+
+    past : ltb k h ≡ false → getD ns k 0 < 2 ^ 16
+    past l =
+        let e : h + (k - h) ≡ k = omega (arith, ltb-false k h l) in
+        omega (arith, rw e at (getD-drop h ns (k - h) 0), zeros-at (drop h ns) (k - h) zeros)
+
+pub sound-row-fits : (r : Row) → Shaped r → soundRow r ≡ true → RowFits r
+unfolding lengthsOf
+sound-row-fits r z e =
+    let f = sound-facts r e in
+    record { shaped = z; held = omega (arith, f .few); lengths = λ k h. low-lengths (r .held) (r .lengths) (f .fits) (f .zero₂) k }
+
+pub sound-state-fits : (s : State) → sound s ≡ true → length (s .rows) ≡ windowSize → s .greatest < 2 ^ 32
+    → ((k : ℕ) (z : Row) → k < length (s .rows) → Shaped (getD (s .rows) k z)) → StateFits s
+unfolding sound
+sound-state-fits s e full low shaped =
+    let rows = both (s .present || eqb (s .greatest) 0) (soundRows (s .present) (s .rows)) e .1 in
+    record {
+      full = full;
+      greatest = low;
+      rows = λ k z h. sound-row-fits (getD (s .rows) k z) (shaped k z h) (both (soundRow (getD (s .rows) k z)) _ (sound-get (s .present) (s .rows) k z h rows) .0);
+    }

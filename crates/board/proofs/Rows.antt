@@ -1,13 +1,13 @@
 -- The receiver's rows as octets.
 use mathlib.Core.Bool.{Bool, _&&_, and-true, and-assoc}
-use mathlib.Core.List.{List, [], _∷_, _++_, append-nil}
+use mathlib.Core.List.{List, [], _∷_, _++_}
 use mathlib.Core.Path.{_≡_, refl, sym, ap, _∙_}
 use Prim.Native.Nat.{ℕ, zero, suc, _+_, _-_, _*_, _%_, _≤_, _<_}
 use native.Mathlib.Nat.{add-zero, add-sub-cancel-left}
 use native.Mathlib.Numerals.{add-one}
 use native.Mathlib.Omega.{arith}
 use lib.Dec.{leb, eqb}
-use lib.ListN.{length, getD, take, drop, set, length-append, length-take, length-drop, take-append-drop}
+use lib.ListN.{length, getD, take, drop, set, length-append, length-take, length-drop}
 use lib.Seq.{take-all, drop-drop, getD-drop}
 use Rattle.octets.specs.Octets.{number16, be16, be32, put}
 use Rattle.octets.proofs.Put.{put-whole, put-put}
@@ -68,10 +68,6 @@ rows-end = read-end rowSize rowOf rowsOf (λ xs. refl) (λ n xs. refl)
 
 -- ---- to octets
 
-pub spread-none : (d : List ℕ) (at : ℕ) → d ≡ put d at (spread [])
-unfolding spread put
-spread-none d at = sym (rw (add-zero at, append-nil (take at d)) (take-append-drop at d))
-
 pub spread-turn : (d d′ d″ items : List ℕ) (at k : ℕ) → d′ ≡ put d at (spread (take k items)) → length (spread (take k items)) ≡ k * 2
     → k < length items → at + k * 2 + 2 ≤ length d → d″ ≡ put d′ (at + k * 2) (be16 (getD items k 0))
     → (d″ ≡ put d at (spread (take (k + 1) items))) × (length (spread (take (k + 1) items)) ≡ (k + 1) * 2)
@@ -102,10 +98,6 @@ row-written d d₁ d₂ d₃ at r z code known ec ek fits e₁ e₂ e₃ =
       e₃ ∙ rw b (put-put d at (at + 68) (head ++ r .indexes) (spread (r .lengths)) (omega (arith, z .indexes64)) (omega (arith, length-spread (r .lengths), z .lengths64))),
       length-row r z,
     )
-
-pub rows-none : (d : List ℕ) (at : ℕ) → d ≡ put d at (rowsImage [])
-unfolding rowsImage put
-rows-none d at = sym (rw (add-zero at, append-nil (take at d)) (take-append-drop at d))
 
 pub rows-image-turn : (d d′ d″ : List ℕ) (items : List Row) (at k : ℕ) (z : Row) → d′ ≡ put d at (rowsImage (take k items)) → length (rowsImage (take k items)) ≡ k * rowSize
     → length (rowImage (getD items k z)) ≡ rowSize → k < length items → at + k * rowSize + rowSize ≤ length d → d″ ≡ put d′ (at + k * rowSize) (rowImage (getD items k z))

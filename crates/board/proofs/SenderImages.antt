@@ -1,12 +1,17 @@
--- A sender's state that was written to an image reads back, so a host can keep the image over a restart.
-use mathlib.Core.Bool.{true}
+-- A sender's state that was written to an image reads back, so a host can keep the image over a restart. Sound states fit an image.
+use mathlib.Core.Bool.{true, false}
+use mathlib.Core.Logic.{⊎-elim}
 use mathlib.Core.List.{[]}
 use mathlib.Core.Path.{_≡_}
 use Prim.Native.Nat.{_<_, _^_}
 use lib.ListN.{length}
+use native.Mathlib.Omega.{arith}
 use Rattle.octets.specs.Octets.{be16, number, be32}
+use Rattle.octets.proofs.Flags.{bool}
 use Rattle.octets.proofs.Numbers.{number-be32, number16-be16}
 use Rattle.sender.specs.declared.State.{State}
+use Rattle.sender.specs.Sound.{sound}
+use Rattle.sender.proofs.Facts.{in-range, in-transfer, at-rest}
 use Rattle.board.specs.Sender.{isImage, stateOf, imageOf}
 use Rattle.board.proofs.ReceiverImages.{flag-back, flag-low}
 
@@ -37,3 +42,18 @@ state-back s f =
 pub image-of-is : (s : State) → isImage (imageOf s) ≡ true
 unfolding isImage imageOf be16 be32
 image-of-is s = rw (flag-low (s .begun))
+
+pub sound-state-fits : (s : State) → sound s ≡ true → s .next < 2 ^ 32 → s .number < 2 ^ 32 → StateFits s
+sound-state-fits s e n t = ⊎-elim busy idle (bool (s .begun))
+  where
+    fits : s .length < 2 ^ 16 → s .placed < 2 ^ 16 → s .index < 2 ^ 32 → StateFits s
+    fits l p i = let r = in-range s e in record { size = omega arith; fill = omega arith; next = n; number = t; length = l; placed = p; index = i }
+
+    busy : s .begun ≡ true → StateFits s
+    busy b =
+        let f = in-transfer s e b in
+        let u = f .counted in
+        fits (omega arith) (omega arith) (omega arith)
+
+    idle : s .begun ≡ false → StateFits s
+    idle b = let f = at-rest s e b in fits (omega arith) (omega arith) (omega arith)

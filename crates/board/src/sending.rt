@@ -115,6 +115,7 @@ fn keep(image: &mut [u8], answer: Answer, state: State)
     }
 }
 
+// Keeps the state and reports the answer.
 fn finish(image: &mut [u8], sent: Sent, result: &mut [u64; 4]) -> u32
     requires { ⌜ length (now image) ≡ imageSize ⌝ }
     ensures { λ r. ⌜ (r ≡ Spec.status (reply (sent .answer))) × (now (image .exit) ≡ Spec.kept (reply (sent .answer)) (now (image .entry)) (sent .state)) × (now (result .exit) ≡ Spec.report (reply (sent .answer)) (now (result .entry))) ⌝ }
@@ -146,6 +147,7 @@ pub extern "C" fn btpu_sender_start(state: &mut [u8], size: u64, first: u32) -> 
     1
 }
 
+// Placing a bundle, on an image.
 #[no_mangle]
 pub extern "C" fn btpu_place(
     state: &mut [u8],
@@ -163,6 +165,7 @@ pub extern "C" fn btpu_place(
     1
 }
 
+// Cancelling the transfer begun, on an image.
 #[no_mangle]
 pub extern "C" fn btpu_cancel(state: &mut [u8], frame: &mut [u8], result: &mut [u64; 4]) -> u32
     ensures { λ r. ⌜ record { status = r; image = now (state .exit); frame = now (frame .exit); result = now (result .exit) } ≡ Spec.cancelledBy (now (state .entry)) (now (frame .entry)) (now (result .entry)) ⌝ }
@@ -175,6 +178,7 @@ pub extern "C" fn btpu_cancel(state: &mut [u8], frame: &mut [u8], result: &mut [
     1
 }
 
+// Flushing, on an image.
 #[no_mangle]
 pub extern "C" fn btpu_flush(state: &mut [u8], frame: &mut [u8], result: &mut [u64; 4]) -> u32
     ensures { λ r. ⌜ record { status = r; image = now (state .exit); frame = now (frame .exit); result = now (result .exit) } ≡ Spec.flushedBy (now (state .entry)) (now (frame .entry)) (now (result .entry)) ⌝ }

@@ -3,6 +3,7 @@
 --     put-four       four stores are a put
 --     put-paste      a finished copy is a put
 --     length-put     a put within a list keeps its length
+--     put-none       a put of nothing
 --     put-whole      a put of all octets
 --     put-put        a put behind a put is one put of the two joined
 -- Assumes nothing.
@@ -10,9 +11,9 @@ use mathlib.Core.Path.{_≡_, sym, ap, _∙_}
 use mathlib.Core.List.{List, [], _∷_, _++_, append-assoc, append-nil}
 use Prim.Native.Nat.{ℕ, _+_, _≤_, _<_}
 use native.Mathlib.Numerals.{towards-suc, add-one}
-use native.Mathlib.Nat.{add-assoc, zero-add}
+use native.Mathlib.Nat.{add-assoc, add-zero, zero-add}
 use native.Mathlib.Omega.{arith}
-use lib.ListN.{length, take, drop, set, getD, length-append, length-take, length-drop}
+use lib.ListN.{length, take, drop, set, getD, length-append, length-take, length-drop, take-append-drop}
 use lib.Seq.{sets-eq, paste, paste-suc, take-length, drop-length, length-take-le, take-at, drop-at, drop-drop}
 use Rattle.octets.specs.Octets.{put}
 
@@ -32,6 +33,10 @@ put-paste d at s = ap (λ (r : List ℕ). take at d ++ r ++ drop (at + length s)
 pub length-put : (d : List ℕ) (at : ℕ) (s : List ℕ) → at + length s ≤ length d → length (put d at s) ≡ length d
 unfolding put
 length-put d at s h = simp (length-append, length-take, length-drop) (omega arith)
+
+pub put-none : (d : List ℕ) (at : ℕ) → put d at [] ≡ d
+unfolding put
+put-none d at = rw (add-zero at, append-nil (take at d)) (take-append-drop at d)
 
 pub put-whole : (d s : List ℕ) → length s ≡ length d → put d 0 s ≡ s
 unfolding put

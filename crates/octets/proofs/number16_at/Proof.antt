@@ -6,9 +6,6 @@ use Rattle.octets.specs.Octets.{number16}
 use borrow.Author.Needs.{needs}
 use Rattle.octets.proofs.number16_at.Statement.{statement}
 use Rattle.octets.proofs.number16_at.Tie as tie
-use Rattle.octets.proofs.number16_at.Reads as reads
-use Rattle.octets.proofs.number16_at.Lts as lts
-use Rattle.octets.proofs.octet16.Reads as octet16-reads
 
 shared-slice-read-octet16 : tie.Need-shared-slice-read-octet16
 shared-slice-read-octet16 c = search needs

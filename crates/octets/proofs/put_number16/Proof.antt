@@ -6,8 +6,6 @@ use Rattle.octets.proofs.Put.{put-two}
 use borrow.Author.Needs.{needs}
 use Rattle.octets.proofs.put_number16.Statement.{statement}
 use Rattle.octets.proofs.put_number16.Tie as tie
-use Rattle.octets.proofs.put_number16.Reads as reads
-use Rattle.octets.proofs.put_number16.Lts as lts
 
 cast-to : tie.Need-cast-to
 cast-to c = search needs

@@ -1,12 +1,13 @@
 -- `board::receiving::put_lengths` meets its contract. The first j lengths are written.
 
 use native.Mathlib.Omega.{arith}
-use mathlib.Core.Path.{_≡_, refl}
+use mathlib.Core.Path.{_≡_, refl, sym}
 use Prim.Native.Nat.{_*_, _≤_, _-_}
 use lib.ListN.{length, take}
 use Rattle.octets.specs.Octets.{put}
+use Rattle.octets.proofs.Put.{put-none}
 use Rattle.board.specs.Receiver.{spread}
-use Rattle.board.proofs.Rows.{spread-none, spread-turn, spread-end}
+use Rattle.board.proofs.Rows.{spread-turn, spread-end}
 use borrow.Author.Needs.{needs}
 use Rattle.board.proofs.receiving.put_lengths.Statement.{statement}
 use Rattle.board.proofs.receiving.put_lengths.Tie as tie
@@ -19,7 +20,7 @@ abbrev μ-loop : tie.MeasureT-loop
 
 loop-holds : tie.Need-loop-holds Inv-loop μ-loop
 unfolding spread
-loop-holds c = (omega arith, spread-none _ (c .before .before .args .at), refl, refl)
+loop-holds c = (omega arith, sym (put-none _ (c .before .before .args .at)), refl, refl)
 
 mul-put-number16 : tie.Need-mul-put-number16 Inv-loop μ-loop
 mul-put-number16 c = omega arith

@@ -1,12 +1,13 @@
 -- `board::receiving::put_rows` meets its contract. The first k rows are written.
 use native.Mathlib.Omega.{arith}
-use mathlib.Core.Path.{_≡_, refl}
+use mathlib.Core.Path.{_≡_, refl, sym}
 use Prim.Native.Nat.{_*_, _≤_, _-_}
 use lib.ListN.{length, take}
 use Rattle.octets.specs.Octets.{put}
+use Rattle.octets.proofs.Put.{put-none}
 use Rattle.receiver.proofs.Rows.{length-mapped}
 use Rattle.board.specs.Receiver.{imageSize, rowSize, rowsImage}
-use Rattle.board.proofs.Rows.{rows-none, rows-image-turn, rows-image-end, length-rows-image}
+use Rattle.board.proofs.Rows.{rows-image-turn, rows-image-end, length-rows-image}
 use borrow.Author.Needs.{needs}
 use Rattle.board.proofs.receiving.put_rows.Statement.{statement}
 use Rattle.board.proofs.receiving.put_rows.Tie as tie
@@ -22,7 +23,7 @@ full c = search (needs, length-mapped)
 
 loop-holds : tie.Need-loop-holds Inv-loop μ-loop
 unfolding rowsImage
-loop-holds c = (omega arith, rows-none _ 8, refl, c .before .pre)
+loop-holds c = (omega arith, sym (put-none _ 8), refl, c .before .pre)
 
 mul-row : tie.Need-mul-row Inv-loop μ-loop
 mul-row c = omega arith
