@@ -35,7 +35,7 @@ standingOf w present g t = cond present (standing w (distance g t)) (New w)
 abbrev pub rowOf : ℕ → ℕ → ℕ
 rowOf w n = n % w
 
--- how many numbers after the first behind g the next number of row r stands
+-- how many numbers after g + 1 the first number of row r from there on is
 abbrev pub ahead : ℕ → ℕ → ℕ → ℕ
 ahead w g r = (r + (w - 1) + (w - g % w)) % w
 
