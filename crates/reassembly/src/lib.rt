@@ -1,7 +1,7 @@
 // The row of one transfer: the row rules, completeness, joining, and what makes a row sound.
 ghost use mathlib.Core.Path.{_≡_};
 ghost use mathlib.Core.Bool.{true, false};
-ghost use Prim.Native.Nat.{_+_, _≤_, _<_};
+ghost use Prim.Native.Nat.{_+_, _*_, _≤_, _<_};
 ghost use lib.ListN.{length, take};
 ghost use Rattle.octets.specs.Octets.{put};
 ghost use Rattle.reassembly.specs.Row as Spec;
@@ -40,6 +40,12 @@ pub struct Scan {
 pub struct Extent {
     pub start: usize,
     pub length: usize,
+}
+
+// A place among the pieces, and where the piece there starts in the cell.
+pub struct Mark {
+    pub place: usize,
+    pub start: usize,
 }
 
 // What the row rules say of a segment or an end. Accepts: its data goes to this offset of the cell.
@@ -152,15 +158,30 @@ fn contradicts(known: bool, last: u8, scan: Scan, index: u8, ending: bool) -> bo
         | (scan.held & (ending != (known & (last == index))))
 }
 
+// Where a search for an index begins, and every later search for a greater one: past the piece at a place, if its index is lower.
+fn past_lower(indexes: &[u8], held: usize, place: usize, index: u8) -> usize
+    requires { ⌜ (held ≤ length (now indexes)) × (place ≤ held) ⌝ }
+    ensures { λ r. ⌜ r ≡ Spec.pastLower held (now (indexes .entry)) place index ⌝ }
+{
+    if place < held {
+        if indexes[place] < index {
+            return place + 1;
+        }
+    }
+    place
+}
+
 // Whether every index from 0 to last is among the first `held`.
 fn all_held(indexes: &[u8], held: usize, last: u8) -> bool
     requires { ⌜ (held ≤ length (now indexes)) × (last < 64) ⌝ }
     ensures { λ r. ⌜ r ≡ Spec.hasAll (last + 1) (take held (now (indexes .entry))) ⌝ }
 {
     let mut all = true;
+    let mut place = 0;
     let mut i = 0u8;
     'search: while i <= last {
-        let mut k = 0;
+        place = past_lower(indexes, held, place, i);
+        let mut k = place;
         loop {
             if held <= k {
                 all = false;
@@ -176,13 +197,34 @@ fn all_held(indexes: &[u8], held: usize, last: u8) -> bool
     all
 }
 
-// Where the piece of an index lies in the cell.
-fn find_piece<'a>(indexes: &'a [u8], lengths: &'a [u16], held: usize, index: u8) -> Extent
-    requires { ⌜ (held ≤ length (now indexes)) × (held ≤ length (now lengths)) × (held ≤ 64) ⌝ }
-    ensures { λ r. ⌜ Spec.Located index (take held (now (indexes .entry))) (take held (now (lengths .entry))) r ⌝ }
+// The mark from where the piece of an index is looked for.
+fn mark_past<'a>(indexes: &'a [u8], lengths: &'a [u16], held: usize, mark: Mark, index: u8) -> Mark
+    requires { ⌜ (held ≤ length (now indexes)) × (held ≤ length (now lengths)) × (held ≤ 64) × (mark .place ≤ held) × (mark .start ≤ 65535 * mark .place) ⌝ }
+    ensures { λ r. ⌜ r ≡ Spec.markPast held (now (indexes .entry)) (now (lengths .entry)) mark index ⌝ }
 {
-    let mut start = 0;
-    let mut k = 0;
+    let from = mark.place;
+    let place = past_lower(indexes, held, from, index);
+    if from < place {
+        let n = lengths[from] as usize;
+        let start = mark.start + n;
+        return Mark { place, start };
+    }
+    mark
+}
+
+// Where the piece of an index lies in the cell, looked for from a mark on.
+fn find_piece<'a>(
+    indexes: &'a [u8],
+    lengths: &'a [u16],
+    held: usize,
+    mark: Mark,
+    index: u8,
+) -> Extent
+    requires { ⌜ (held ≤ length (now indexes)) × (held ≤ length (now lengths)) × (held ≤ 64) × (mark .place ≤ held) × (mark .start ≤ 65535 * mark .place) ⌝ }
+    ensures { λ r. ⌜ Spec.Located index mark (take held (now (indexes .entry))) (take held (now (lengths .entry))) r ⌝ }
+{
+    let mut start = mark.start;
+    let mut k = mark.place;
     while k < held {
         let n = lengths[k] as usize;
         if indexes[k] == index {
@@ -310,10 +352,12 @@ fn join<'a>(
     requires { ⌜ (Spec.sumOf (take held (now lengths)) ≤ length (now cell)) × (Spec.sumOf (take held (now lengths)) ≤ length (now out)) ⌝ }
     ensures { λ r. ⌜ Spec.Joined (Spec.joined false (last + 1) (take held (now (indexes .entry))) (take held (now (lengths .entry))) (now (cell .entry))) (now (out .entry)) r (now (out .exit)) ⌝ }
 {
+    let mut mark = Mark { place: 0, start: 0 };
     let mut at = 0;
     let mut i = 0u8;
     while i <= last {
-        let p = find_piece(indexes, lengths, held, i);
+        mark = mark_past(indexes, lengths, held, mark, i);
+        let p = find_piece(indexes, lengths, held, mark, i);
         let from = p.start;
         let n = p.length;
         let to = from + n;
