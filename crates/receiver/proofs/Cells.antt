@@ -11,6 +11,7 @@ use Rattle.octets.specs.Octets.{put}
 use Rattle.octets.proofs.Put.{length-put}
 use Rattle.reassembly.specs.Row.{bundleMax, written}
 use Rattle.receiver.specs.Message.{cellAt, putCell}
+use Rattle.receiver.specs.Run.{writtenAt}
 
 -- what is put back for a part that ends at e
 pub put-back : (a k : ℕ) (xs ys : List ℕ) → length ys ≡ k → putMid a k xs ys ≡ put xs a ys
@@ -48,11 +49,6 @@ module _ (w : ℕ) (pool : List ℕ) (full : length pool ≡ w * bundleMax) (r :
   pub same-cell : putCell pool r (cellAt pool r) ≡ pool
   unfolding putCell cellAt
   same-cell = sym (put-back (r * bundleMax) bundleMax pool (cellAt pool r) length-cell) ∙ put-same (r * bundleMax) bundleMax pool
-
--- the output with a bundle, if there is one, behind the octets used
-unfoldable pub writtenAt : ℕ → Option (List ℕ) → List ℕ → List ℕ
-writtenAt used none output = output
-writtenAt used (some bundle) output = put output used bundle
 
 module _ (output : List ℕ) (used : ℕ) (within : used ≤ length output) where
   abbrev part : List ℕ

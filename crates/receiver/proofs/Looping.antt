@@ -1,16 +1,15 @@
 -- The message loop: what it keeps.
-use mathlib.Core.Bool.{true, false, _&&_}
+use mathlib.Core.Bool.{Bool, true, false, _&&_}
 use mathlib.Core.List.{List, [], _∷_}
 use mathlib.Core.Logic.{_⊎_, inl, inr}
 use mathlib.Core.Option.{Option, none, some}
 use mathlib.Core.Path.{_≡_, refl, sym, _∙_, subst}
-use Prim.Native.Nat.{ℕ, _+_, _-_, _*_, _^_, _≤_, _<_}
+use Prim.Native.Nat.{ℕ, _+_, _-_, _^_, _≤_, _<_}
 use native.Mathlib.Nat.{zero-add, sub-zero}
 use native.Mathlib.Omega.{arith}
 use lib.Dec.{ltb, leb}
 use lib.ListN.{length, getD, take, drop, set, length-take, length-drop}
 use borrow.Author.Tests.{ltb-true, ltb-false, leb-true, le-leb}
-use borrow.Rule.Slice.PartMut.{putMid}
 use Rattle.octets.proofs.Flags.{bool, both}
 use Rattle.octets.proofs.Put.{length-put}
 use Rattle.wire.specs.Frame.{Item, Scan, row, items, scanned, checked, from}
@@ -19,6 +18,8 @@ use Rattle.wire.specs.Message.{answer}
 use Rattle.wire.specs.declared.Checked.the-variants.{Accepted}
 use Rattle.wire.specs.declared.Fault.{Fault}
 use Rattle.wire.specs.declared.Reading.the-variants.{Good, Bad}
+use Rattle.wire.specs.declared.Kind.{Kind}
+use Rattle.wire.specs.declared.Kind.the-variants.{Skipped}
 use Rattle.wire.specs.declared.Span.{Span}
 use Rattle.wire.proofs.Frames.{scanAt}
 use Rattle.wire.proofs.Items.{Next}
@@ -26,7 +27,7 @@ use Rattle.wire.proofs.Items as Items
 use Rattle.wire.proofs.Places.{taken, resume}
 use Rattle.wire.proofs.Spans.{Located, located, sized}
 use Rattle.window.specs.Window.{windowSize, sixteen}
-use Rattle.reassembly.specs.Row.{bundleMax, emptyRow, soundRow, deliveryOf, Answers}
+use Rattle.reassembly.specs.Row.{bundleMax, emptyRow, soundRow, deliveryOf}
 use Rattle.reassembly.specs.Row as Rules
 use Rattle.reassembly.specs.declared.Delivery.{Delivery}
 use Rattle.reassembly.specs.declared.Delivery.the-variants.{Nothing, Bundle}
@@ -34,14 +35,14 @@ use Rattle.reassembly.specs.declared.Phase.the-variants.{Free}
 use Rattle.reassembly.specs.declared.Row.{Row}
 use Rattle.reassembly.specs.declared.Taken.{Taken}
 use Rattle.reassembly.proofs.Kept.{Shaped}
-use Rattle.receiver.specs.Message.{Draft, draft02, Board, Handed, Outcome, handedOf, cellAt, putCell, step}
+use Rattle.receiver.specs.Message.{Draft, draft02, Board, Handed, Outcome, handedOf, cellAt, step}
 use Rattle.receiver.specs.Receive.{Reply, delivered, treat, messagesFrom}
-use Rattle.receiver.specs.Run.{Run, visitOf, found, admits, rowStep, size, progressed, advanced, roomy, run, answerOf}
+use Rattle.receiver.specs.Run.{Run, visitOf, admits, rowStep, writtenAt, Lands, size, progressed, advanced, roomy, run, answerOf}
 use Rattle.receiver.specs.declared.Origin.{Origin}
+use Rattle.receiver.specs.declared.Origin.the-variants.{Whole}
 use Rattle.receiver.specs.declared.Progress.{Progress}
 use Rattle.receiver.specs.declared.Visit.{Visit}
-use Rattle.receiver.proofs.Cells.{writtenAt, lent-cell, cell-back, output-back}
-use Rattle.receiver.proofs.Visits.{cleared, landed, visited, outcome, landed-step, row-cell, row-fits, Visiting, visiting, visit-slot, visit-admits, Sound, visited-sound, cell-full, landed-sound}
+use Rattle.receiver.proofs.Visits.{rowsFor, landed, visited, outcome, landed-step, row-fits, Visiting, visiting, visit-slot, visit-admits, Sound, visited-sound, cell-full, landed-sound}
 
 -- the messages that the loop has yet to treat
 abbrev pub left : List ℕ → Run → List Item
@@ -88,6 +89,10 @@ items-row : {s : Scan} (is : List Item) → s ≡ row is → items s ≡ is
 unfolding items
 items-row is e = rw e
 
+skip-step : (w : ℕ) (falling : Bool) (b : Board) (k : Kind) (content : List ℕ) → k ≡ Skipped → step w falling b (message k content) ≡ record { board = b; handed = none }
+unfolding step message
+skip-step w falling b k content e = rw e
+
 -- A turn of the loop: the message m is read, and goes where v says.
 module _ (limit : ℕ) (frame : List ℕ) (p₀ : Run) (is₀ : List Item) (n : ℕ) (p : Run) (G : Going limit frame p₀ is₀ n p)
     (test : (ltb (p .progress .next) (length frame) && roomy (p .progress) limit (length (p .output))) ≡ true)
@@ -125,6 +130,23 @@ module _ (limit : ℕ) (frame : List ℕ) (p₀ : Run) (is₀ : List Item) (n : 
   pub place : Located frame at m
   place = located frame at (omega (arith, at<)) m told
 
+  follows : Next frame at m (left frame p)
+  follows = Items.next frame at (left frame p) (G .here) at< m told
+
+  -- a message that is passed over
+  pub passed : m .kind ≡ Skipped → Going limit frame p₀ is₀ n (record { board = b; output = p .output; progress = progressed (p .progress) Nothing (m .end) Whole })
+  unfolding run advanced progressed
+  passed e =
+      let r = items-row (follows .rest) (follows .then) in
+      record {
+        same = rw r (G .same ∙ rw (follows .first, tests .1, skip-step windowSize false b (m .kind) content e));
+        here = rw r (follows .then);
+        ready = G .ready;
+        low = G .low;
+        output = G .output;
+        used = G .used;
+      }
+
   pub visits : Visiting windowSize (b .state .present) (b .state .greatest) v
   visits = visiting windowSize sixteen (b .state .present) (b .state .greatest) (message (m .kind) content)
 
@@ -158,9 +180,6 @@ module _ (limit : ℕ) (frame : List ℕ) (p₀ : Run) (is₀ : List Item) (n : 
         abbrev next : Run
         next = record { board = done .board; output = writtenAt (p .progress .used) (o .bundle) (p .output); progress = progressed (p .progress) (deliveryOf (o .bundle)) (m .end) (v .origin) }
 
-        follows : Next frame at m (left frame p)
-        follows = Items.next frame at (left frame p) (G .here) at< m told
-
         stepped : done ≡ step windowSize false b (message (m .kind) content)
         stepped = landed-step windowSize sixteen false b (G .ready .rows) (G .ready .pool) (G .low) (m .kind) content low
 
@@ -183,39 +202,27 @@ module _ (limit : ℕ) (frame : List ℕ) (p₀ : Run) (is₀ : List Item) (n : 
               used = progressed-used (p .progress) (o .bundle) (m .end) (v .origin) n (G .used) λ x q. omega (arith, room′ x q, G .output);
             }
 
-    -- what the code makes of a turn: rows, found row, cell, output and progress as they are then
+    -- what the code makes of a turn: rows, row, pool, output and progress as they are then
     abbrev Turned : Visit → Type 0
     Turned x =
-        (rows : List Row) → rows ≡ cleared windowSize (b .state .greatest) (x .entered) (b .state .rows)
-        → (r : Row) → r ≡ found (x .entered) (getD rows (x .slot) (emptyRow Free)) → Shaped r → x .greatest < 2 ^ 32
-        → (t : Taken) (cell output : List ℕ)
-        → Answers
-        (rowStep false (x .act) content r (take (x .slot * bundleMax + bundleMax - x .slot * bundleMax) (drop (x .slot * bundleMax) (b .pool))))
-        (take (length (p .output) - p .progress .used) (drop (p .progress .used) (p .output)))
-        t cell output
+        (rows : List Row) → rows ≡ rowsFor windowSize false b x
+        → (r : Row) → r ≡ getD rows (x .slot) (emptyRow Free) → Shaped r → x .greatest < 2 ^ 32
+        → (t : Taken) (pool output : List ℕ) → Lands (rowStep false (x .act) content r (cellAt (b .pool) (x .slot))) (x .slot) (b .pool) (p .progress .used) (p .output) t pool output
         → (progress : Progress) → progress ≡ progressed (p .progress) (t .delivery) (m .end) (x .origin)
         → Going limit frame p₀ is₀ n
         (record {
-          board = record {
-            state = record { present = x .present; greatest = x .greatest; rows = set rows (x .slot) (t .row) };
-            pool = putMid (x .slot * bundleMax) (x .slot * bundleMax + bundleMax - x .slot * bundleMax) (b .pool) cell;
-          };
-          output = putMid (p .progress .used) (length (p .output) - p .progress .used) (p .output) output;
+          board = record { state = record { present = x .present; greatest = x .greatest; rows = set rows (x .slot) (t .row) }; pool = pool };
+          output = output;
           progress = progress;
         })
 
     turned-here : Turned v
-    turned-here rows er r ef z low t cell output ans progress ep =
+    turned-here rows er r ef z low t pool output ans progress ep =
         let re : r ≡ visited windowSize false b v = ef ∙ rw er in
         let shaped : Shaped (visited windowSize false b v) = subst Shaped re z in
-        let a : Answers o (take (length (p .output) - p .progress .used) (drop (p .progress .used) (p .output))) t cell output = rw (re, lent-cell (b .pool) (v .slot)) at ans in
-        let long = row-cell false content (visited windowSize false b v) (cellAt (b .pool) (v .slot)) (v .act) cell-long in
-        let pooled : putMid (v .slot * bundleMax) (v .slot * bundleMax + bundleMax - v .slot * bundleMax) (b .pool) cell ≡ putCell (b .pool) (v .slot) (o .cell)
-        = rw (a .cell) (cell-back (b .pool) (v .slot) (o .cell) long) in
-        let written : putMid (p .progress .used) (length (p .output) - p .progress .used) (p .output) output ≡ writtenAt (p .progress .used) (o .bundle) (p .output)
-        = rw (a .output) (output-back (p .output) (p .progress .used) (omega (arith, room)) (o .bundle)) in
+        let a : Lands o (v .slot) (b .pool) (p .progress .used) (p .output) t pool output = rw re at ans in
         let came : progress ≡ progressed (p .progress) (deliveryOf (o .bundle)) (m .end) (v .origin) = ep ∙ rw (a .delivery) in
-        rw (er, a .row, pooled, written, came) (goes-on shaped low)
+        rw (er, a .row, a .pool, a .output, came) (goes-on shaped low)
 
     pub turned : (x : Visit) → x ≡ v → Turned x
     turned x e = subst Turned (sym e) turned-here

@@ -9,7 +9,7 @@ use native.Mathlib.Numerals.{add-one}
 use native.Mathlib.Omega.{arith}
 use lib.Dec.{eqb, ltb}
 use lib.ListN.{length, getD, drop, set, length-set, length-map, drop-of-length-le}
-use lib.Seq.{drop-cons, ext-getD, getD-set-same, getD-set-other}
+use lib.Seq.{drop-cons, ext-getD, getD-set-same, getD-set-other, set-getD}
 use borrow.Author.Tests.{eqb-true, eqb-false, ltb-true, ltb-false, lt-ltb, le-ltb}
 use Rattle.octets.proofs.Flags.{bool, and, both, cond-elim}
 use Rattle.window.specs.Window.{Window, rowOf, ahead, enters}
@@ -130,10 +130,10 @@ module _ (w : ℕ) (win : Window w) (g : ℕ) (rows : List Row) (full : length r
 
   -- where numbers are skipped the rows are freed; the row of the number itself is replaced
   module _ (t d : ℕ) (E : Entered w g t d) where
-    pub own-free : getD (freedFrom w 0 g d rows) (rowOf w t) (emptyRow Free) ≡ emptyRow Free
+    own-free : getD (freedFrom w 0 g d rows) (rowOf w t) (emptyRow Free) ≡ emptyRow Free
     own-free = freed-at w g d rows full (rowOf w t) (row-below w win t) ∙ rw (E .own)
 
-    pub own-set : (x : Row) → set (cond (ltb 1 d) (freedFrom w 0 g d rows) rows) (rowOf w t) x ≡ set (freedFrom w 0 g d rows) (rowOf w t) x
+    own-set : (x : Row) → set (cond (ltb 1 d) (freedFrom w 0 g d rows) rows) (rowOf w t) x ≡ set (freedFrom w 0 g d rows) (rowOf w t) x
     own-set x = go (bool (ltb 1 d))
       where
         next : d ≡ 1 → set rows (rowOf w t) x ≡ set (freedFrom w 0 g d rows) (rowOf w t) x
@@ -154,6 +154,9 @@ module _ (w : ℕ) (win : Window w) (g : ℕ) (rows : List Row) (full : length r
         go : (ltb 1 d ≡ true) ⊎ (ltb 1 d ≡ false) → set (cond (ltb 1 d) (freedFrom w 0 g d rows) rows) (rowOf w t) x ≡ set (freedFrom w 0 g d rows) (rowOf w t) x
         go (inl e) = rw e
         go (inr e) = rw e (next (omega (arith, ltb-false 1 d e, E .some)))
+
+    pub own-opened : set (cond (ltb 1 d) (freedFrom w 0 g d rows) rows) (rowOf w t) (emptyRow Free) ≡ freedFrom w 0 g d rows
+    own-opened = own-set (emptyRow Free) ∙ ap (set (freedFrom w 0 g d rows) (rowOf w t)) (sym own-free) ∙ set-getD (freedFrom w 0 g d rows) (rowOf w t) (emptyRow Free)
 
   -- the row of one number more
   module _ (j : ℕ) (j< : j < w) where

@@ -25,7 +25,7 @@ use Rattle.reassembly.specs.declared.Phase.the-variants.{Free}
 use Rattle.reassembly.specs.declared.Row.{Row}
 use Rattle.reassembly.proofs.Kept.{Shaped, empty-sound, piece-sound, piece-cell, piece-bundle-fits, cancel-sound}
 use Rattle.receiver.specs.Message.{Board, Outcome, cellAt, putCell, handedOf, freedFrom, moved, inRow, treatTransfer, step}
-use Rattle.receiver.specs.Run.{stay, transferVisit, visitOf, found, admits, rowStep}
+use Rattle.receiver.specs.Run.{stay, transferVisit, visitOf, admits, rowStep}
 use Rattle.receiver.specs.State.{soundRows, sound}
 use Rattle.receiver.specs.declared.Act.{Act}
 use Rattle.receiver.specs.declared.Act.the-variants.{Pass, HandOut, Piece, Cancel}
@@ -33,7 +33,7 @@ use Rattle.receiver.specs.declared.Origin.the-variants.{Whole}
 use Rattle.receiver.specs.declared.State.{State}
 use Rattle.receiver.specs.declared.Visit.{Visit}
 use Rattle.receiver.proofs.Cells.{length-cell, length-put-cell, same-cell}
-use Rattle.receiver.proofs.Rows.{sound-get, sound-set, sound-in, sound-present, sound-freed, length-freed, own-free, own-set}
+use Rattle.receiver.proofs.Rows.{sound-get, sound-set, sound-in, sound-present, sound-freed, length-freed, own-opened}
 
 -- the rows once those of skipped numbers are freed
 abbrev pub cleared : ℕ → ℕ → ℕ → List Row → List Row
@@ -45,12 +45,26 @@ cleared-some w g d rows h = rw (lt-ltb 1 d h)
 pub cleared-none : (w g d : ℕ) (rows : List Row) → d ≤ 1 → rows ≡ cleared w g d rows
 cleared-none w g d rows h = rw (le-ltb 1 d h)
 
+-- and then the row of a number that enters
+abbrev pub opened : ℕ → ℕ → List Row → List Row
+opened slot entered rows = cond (ltb 0 entered) (set rows slot (emptyRow Free)) rows
+
+pub opened-some : (slot d : ℕ) (rows : List Row) → 0 < d → set rows slot (emptyRow Free) ≡ opened slot d rows
+opened-some slot d rows h = rw (lt-ltb 0 d h)
+
+pub opened-none : (slot d : ℕ) (rows : List Row) → d ≤ 0 → rows ≡ opened slot d rows
+opened-none slot d rows h = rw (le-ltb 0 d h)
+
 module _ (w : ℕ) (falling : Bool) (b : Board) where
+  -- the rows that a visit finds
+  abbrev pub rowsFor : Visit → List Row
+  rowsFor v = opened (v .slot) (v .entered) (cleared w (b .state .greatest) (v .entered) (b .state .rows))
+
   -- what a visit makes of a board, with its row's outcome
   abbrev pub landed : Visit → Rules.Outcome → Outcome
   landed v o = record {
     board = record {
-      state = record { present = v .present; greatest = v .greatest; rows = set (cleared w (b .state .greatest) (v .entered) (b .state .rows)) (v .slot) (o .row) };
+      state = record { present = v .present; greatest = v .greatest; rows = set (rowsFor v) (v .slot) (o .row) };
       pool = putCell (b .pool) (v .slot) (o .cell);
     };
     handed = handedOf (v .origin) (o .bundle);
@@ -58,7 +72,7 @@ module _ (w : ℕ) (falling : Bool) (b : Board) where
 
   -- the row that a visit finds
   abbrev pub visited : Visit → Row
-  visited v = found (v .entered) (getD (cleared w (b .state .greatest) (v .entered) (b .state .rows)) (v .slot) (emptyRow Free))
+  visited v = getD (rowsFor v) (v .slot) (emptyRow Free)
 
   abbrev pub outcome : Visit → List ℕ → Rules.Outcome
   outcome v content = rowStep falling (v .act) content (visited v) (cellAt (b .pool) (v .slot))
@@ -81,7 +95,7 @@ module _ (w : ℕ) (win : Window w) (falling : Bool) (b : Board) (full : length 
     landed-transfer Inside e t< = rw does
     landed-transfer (New d) e t< =
         let E = entered w win (s .present) (s .greatest) t d low t< e in
-        rw (lt-ltb 0 d (E .some), does, own-set w win (s .greatest) (s .rows) full t d E, own-free w win (s .greatest) (s .rows) full t d E)
+        rw (lt-ltb 0 d (E .some), does, own-opened w win (s .greatest) (s .rows) full t d E)
     landed-transfer Outside e t< = passed none Pass
 
   pub landed-step : s .greatest < 2 ^ 32 → (k : Kind) (content : List ℕ) → visitOf w (s .present) (s .greatest) (message k content) .greatest < 2 ^ 32
@@ -171,19 +185,20 @@ module _ (w : ℕ) (win : Window w) (falling : Bool) (b : Board) (R : Sound w b)
   unfolding sound
   rows-sound = both (b .state .present || eqb (b .state .greatest) 0) (soundRows (b .state .present) (b .state .rows)) (R .sound) .1
 
-  cleared-sound : (d : ℕ) → soundRows true (cleared w (b .state .greatest) d (b .state .rows)) ≡ true
-  cleared-sound d =
+  rows-for-sound : (v : Visit) → soundRows true (rowsFor w falling b v) ≡ true
+  rows-for-sound v =
       let s = sound-present (b .state .present) (b .state .rows) rows-sound in
-      cond-elim (λ (rows : List Row). soundRows true rows ≡ true) (ltb 1 d) (λ _. sound-freed w 0 (b .state .greatest) d (b .state .rows) s) (λ _. s)
+      let c = cond-elim (λ (rows : List Row). soundRows true rows ≡ true) (ltb 1 (v .entered)) (λ _. sound-freed w 0 (b .state .greatest) (v .entered) (b .state .rows) s) (λ _. s) in
+      cond-elim (λ (rows : List Row). soundRows true rows ≡ true) (ltb 0 (v .entered)) (λ _. sound-set true _ (v .slot) (emptyRow Free) c (sound-in _ (empty-sound Free refl))) (λ _. c)
 
-  pub cleared-full : (d : ℕ) → length (cleared w (b .state .greatest) d (b .state .rows)) ≡ w
-  cleared-full d = cond-elim (λ (rows : List Row). length rows ≡ w) (ltb 1 d) (λ _. length-freed w 0 (b .state .greatest) d (b .state .rows) ∙ R .rows) (λ _. R .rows)
+  pub rows-for-full : (v : Visit) → length (rowsFor w falling b v) ≡ w
+  rows-for-full v =
+      let c = cond-elim (λ (rows : List Row). length rows ≡ w) (ltb 1 (v .entered)) (λ _. length-freed w 0 (b .state .greatest) (v .entered) (b .state .rows) ∙ R .rows) (λ _. R .rows) in
+      cond-elim (λ (rows : List Row). length rows ≡ w) (ltb 0 (v .entered)) (λ _. length-set (cleared w (b .state .greatest) (v .entered) (b .state .rows)) (v .slot) (emptyRow Free) ∙ c) (λ _. c)
 
   -- the row that a visit finds is sound
   pub visited-sound : (v : Visit) → v .slot < w → soundRow (visited w falling b v) ≡ true
-  visited-sound v h =
-      cond-elim (λ (r : Row). soundRow r ≡ true) (ltb 0 (v .entered)) (λ _. empty-sound Free refl)
-      λ _. both _ true (sound-get true (cleared w (b .state .greatest) (v .entered) (b .state .rows)) (v .slot) (emptyRow Free) (omega (arith, cleared-full (v .entered))) (cleared-sound (v .entered))) .0
+  visited-sound v h = both _ true (sound-get true (rowsFor w falling b v) (v .slot) (emptyRow Free) (omega (arith, rows-for-full v)) (rows-for-sound v)) .0
 
   pub cell-full : (v : Visit) → v .slot < w → length (cellAt (b .pool) (v .slot)) ≡ bundleMax
   cell-full v h = length-cell w (b .pool) (R .pool) (v .slot) h
@@ -197,7 +212,7 @@ module _ (w : ℕ) (win : Window w) (falling : Bool) (b : Board) (R : Sound w b)
         and (s .present || eqb (s .greatest) 0) _ (both (s .present || eqb (s .greatest) 0) (soundRows (s .present) (s .rows)) (R .sound) .0)
         (sound-set (s .present) (s .rows) 0 _ rows-sound (rw (h falling content (getD (s .rows) 0 (emptyRow Free)) (cellAt (b .pool) 0)) r))
     state-sound (goes v h p) z =
-        rw p (sound-set true (cleared w (b .state .greatest) (v .entered) (b .state .rows)) (v .slot) _ (cleared-sound (v .entered))
+        rw p (sound-set true (rowsFor w falling b v) (v .slot) _ (rows-for-sound v)
         (sound-in _ (row-sound falling content (visited w falling b v) (cellAt (b .pool) (v .slot)) (v .act) (visited-sound v h) z)))
 
     pub landed-sound : {v : Visit} → Visiting w (b .state .present) (b .state .greatest) v → Shaped (visited w falling b v) → Sound w (landed w falling b v (outcome w falling b v content) .board)
@@ -206,6 +221,6 @@ module _ (w : ℕ) (win : Window w) (falling : Bool) (b : Board) (R : Sound w b)
         let o = outcome w falling b v content in
         record {
           sound = state-sound g z;
-          rows = length-set (cleared w (b .state .greatest) (v .entered) (b .state .rows)) (v .slot) (o .row) ∙ cleared-full (v .entered);
+          rows = length-set (rowsFor w falling b v) (v .slot) (o .row) ∙ rows-for-full v;
           pool = length-put-cell w (b .pool) (R .pool) (v .slot) h (o .cell) (row-cell falling content (visited w falling b v) (cellAt (b .pool) (v .slot)) (v .act) (cell-full v h));
         }

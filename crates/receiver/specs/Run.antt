@@ -1,5 +1,6 @@
 -- The message loop as the code runs it: with a limit on the bundles, which lie one behind another in the output. The laws that
 -- tie it to the receiving call are in proofs/.
+use mathlib.Core.Path.{_≡_}
 use mathlib.Core.Bool.{Bool, true, false, cond, _&&_}
 use mathlib.Core.Option.{Option, none, some}
 use mathlib.Core.List.{List, [], _∷_}
@@ -13,11 +14,11 @@ use Rattle.window.specs.declared.Standing.{Standing}
 use Rattle.window.specs.declared.Standing.the-variants.{Inside, New, Outside}
 use Rattle.window.specs.Window.{standingOf, rowOf}
 use Rattle.reassembly.specs.declared.Row.{Row}
-use Rattle.reassembly.specs.declared.Phase.the-variants.{Free}
 use Rattle.reassembly.specs.declared.Delivery.{Delivery}
 use Rattle.reassembly.specs.declared.Delivery.the-variants.{Nothing, Bundle}
 use Rattle.reassembly.specs.Row as Rules
-use Rattle.reassembly.specs.Row.{bundleMax, emptyRow, silent, pieceStep, cancelStep}
+use Rattle.reassembly.specs.declared.Taken.{Taken}
+use Rattle.reassembly.specs.Row.{bundleMax, silent, pieceStep, cancelStep, deliveryOf}
 use Rattle.receiver.specs.declared.Origin.{Origin}
 use Rattle.receiver.specs.declared.Origin.the-variants.{Whole, Transfer}
 use Rattle.receiver.specs.declared.Act.{Act}
@@ -30,7 +31,7 @@ use Rattle.receiver.specs.declared.Admission.{Admission}
 use Rattle.receiver.specs.declared.Admission.the-variants.{Admitted, Denied}
 use Rattle.receiver.specs.declared.Progress.{Progress}
 use Rattle.receiver.specs.declared.Ran.{Ran}
-use Rattle.receiver.specs.Message.{Board, Handed, Outcome, step}
+use Rattle.receiver.specs.Message.{Board, Handed, Outcome, putCell, step}
 
 -- ---- where a message goes
 
@@ -51,10 +52,6 @@ module _ (w : ℕ) where
   visitOf present g (last t i d) = transferVisit (standingOf w present g t) present g (Piece true) t
   visitOf present g (cancel t) = transferVisit (standingOf w present g t) present g Cancel t
 
--- the row that a message finds: an empty one where its number enters
-abbrev pub found : ℕ → Row → Row
-found entered r = cond (ltb 0 entered) (emptyRow Free) r
-
 -- a content of n octets is long enough for what is done with it, and no longer than a bundle
 abbrev pub admits : Act → ℕ → Bool
 admits Pass n = true
@@ -68,6 +65,18 @@ rowStep falling Pass content r cell = silent r cell
 rowStep falling HandOut content r cell = record { row = r; cell = cell; bundle = some content }
 rowStep falling (Piece ending) content r cell = pieceStep falling ending (number (drop 4 content)) (drop 8 content) r cell
 rowStep falling Cancel content r cell = cancelStep r cell
+
+-- the output with a bundle, if there is one, behind the octets used
+unfoldable pub writtenAt : ℕ → Option (List ℕ) → List ℕ → List ℕ
+writtenAt used none output = output
+writtenAt used (some x) output = put output used x
+
+-- the code's answer, pool and output are those of a row's outcome
+pub record Lands (o : Rules.Outcome) (slot : ℕ) (pool₀ : List ℕ) (used : ℕ) (output₀ : List ℕ) (t : Taken) (pool₁ output₁ : List ℕ) : Type 0 where
+  pub row : t .row ≡ o .row
+  pub delivery : t .delivery ≡ deliveryOf (o .bundle)
+  pub pool : pool₁ ≡ putCell pool₀ slot (o .cell)
+  pub output : output₁ ≡ writtenAt used (o .bundle) output₀
 
 -- ---- the loop
 

@@ -19,7 +19,7 @@ ghost use Rattle.wire.specs.declared.Checked.the-variants as Frame;
 ghost use Rattle.window.specs.Window.{windowSize, standingOf};
 ghost use Rattle.reassembly.specs.Row.{bundleMax, soundRow, Answers};
 ghost use Rattle.receiver.specs.State as Spec;
-ghost use Rattle.receiver.specs.Message.{freedFrom, draft02};
+ghost use Rattle.receiver.specs.Message.{freedFrom, draft02, cellAt};
 ghost use Rattle.receiver.specs.Run as Loop;
 ghost use Rattle.receiver.specs.Receive as Call;
 
@@ -251,20 +251,10 @@ fn visit_of(present: bool, greatest: u32, kind: Kind, content: &[u8]) -> Visit
     }
 }
 
-// The row that a message finds.
-fn found(entered: u32, row: Row) -> Row
-    ensures { λ r. ⌜ r ≡ Loop.found entered row ⌝ }
-{
-    if 0 < entered {
-        return reassembly::empty_row(Phase::Free);
-    }
-    row
-}
-
-// A message with its content, for its row; a bundle goes to the front of `out`.
+// A message with its content, for its row; a bundle goes to the front of `out`. (That the row has 64 entries is known only of a parameter.)
 fn row_turn(row: Row, act: Act, cell: &mut [u8], content: &[u8], out: &mut [u8]) -> Taken
     requires { ⌜ (soundRow row ≡ true) × (Loop.admits act (length (now content)) ≡ true) × (length (now cell) ≡ bundleMax) × (bundleMax ≤ length (now out)) ⌝ }
-    ensures { λ r. ⌜ Answers (Loop.rowStep false act (now (content .entry)) row (now (cell .entry))) (now (out .entry)) r (now (cell .exit)) (now (out .exit)) ⌝ }
+    ensures { λ r. ⌜ (Answers (Loop.rowStep false act (now (content .entry)) row (now (cell .entry))) (now (out .entry)) r (now (cell .exit)) (now (out .exit))) × (length (row .indexes) ≡ 64) × (length (row .lengths) ≡ 64) ⌝ }
 {
     match act {
         Act::Pass => Taken {
@@ -289,11 +279,31 @@ fn row_turn(row: Row, act: Act, cell: &mut [u8], content: &[u8], out: &mut [u8])
     }
 }
 
-// After a message, with the next one's start.
-fn progressed(p: Progress, delivery: Delivery, next: usize, origin: Origin) -> Progress
-    requires { ⌜ (p .count + 1 < 2 ^ 64) × (p .used + Loop.size delivery < 2 ^ 64) ⌝ }
-    ensures { λ r. ⌜ r ≡ Loop.progressed p delivery next origin ⌝ }
+// A message for the row that it goes to: the row's cell is lent on, and what the bundles have left of the output.
+fn cell_turn(
+    row: Row,
+    v: Visit,
+    pool: &mut [u8],
+    content: &[u8],
+    output: &mut [u8],
+    used: usize,
+) -> Taken
+    requires { ⌜ (soundRow row ≡ true) × (Loop.admits (v .act) (length (now content)) ≡ true) × (v .slot < windowSize) × (length (now pool) ≡ windowSize * bundleMax) × (used + bundleMax ≤ length (now output)) ⌝ }
+    ensures { λ r. ⌜ (Loop.Lands (Loop.rowStep false (v .act) (now (content .entry)) row (cellAt (now (pool .entry)) (v .slot))) (v .slot) (now (pool .entry)) used (now (output .entry)) r (now (pool .exit)) (now (output .exit))) × (length (row .indexes) ≡ 64) × (length (row .lengths) ≡ 64) ⌝ }
 {
+    let base = v.slot * BUNDLE_MAX;
+    let top = base + BUNDLE_MAX;
+    let act = v.act;
+    row_turn(row, act, &mut pool[base..top], content, &mut output[used..])
+}
+
+// After a message, with the next one's start.
+fn progressed(p: Progress, t: Taken, next: usize, v: Visit) -> Progress
+    requires { ⌜ (p .count + 1 < 2 ^ 64) × (p .used + Loop.size (t .delivery) < 2 ^ 64) ⌝ }
+    ensures { λ r. ⌜ r ≡ Loop.progressed p (t .delivery) next (v .origin) ⌝ }
+{
+    let delivery = t.delivery;
+    let origin = v.origin;
     match delivery {
         Delivery::Nothing => {
             let origin = p.origin;
@@ -345,6 +355,10 @@ fn run(
         let kind = m.kind;
         let start = m.start;
         let end = m.end;
+        if let Kind::Skipped = kind {
+            progress.next = end;
+            continue;
+        }
         let content = &frame[start..end];
         let v = visit_of(present, greatest, kind, content);
         if 1 < v.entered {
@@ -353,17 +367,13 @@ fn run(
         present = v.present;
         greatest = v.greatest;
         let slot = v.slot;
-        let base = slot * BUNDLE_MAX;
-        let top = base + BUNDLE_MAX;
-        let used = progress.used;
-        let act = v.act;
-        let row = found(v.entered, rows[slot]);
-        let t = row_turn(row, act, &mut pool[base..top], content, &mut output[used..]);
+        if 0 < v.entered {
+            rows[slot] = reassembly::empty_row(Phase::Free);
+        }
+        let t = cell_turn(rows[slot], v, pool, content, output, progress.used);
         let next = t.row;
-        let delivery = t.delivery;
-        let origin = v.origin;
         rows[slot] = next;
-        progress = progressed(progress, delivery, end, origin);
+        progress = progressed(progress, t, end, v);
     }
     Ran {
         progress,

@@ -12,11 +12,11 @@ enum-told c = search needs
 enum-known-delivery : tie.Need-enum-known-delivery
 enum-known-delivery c = search needs
 
-add-t8 : tie.Need-add-t8
-add-t8 c = search needs
+add-t10 : tie.Need-add-t10
+add-t10 c = search needs
 
-add-t9 : tie.Need-add-t9
-add-t9 c = let e = ap size (c .before .before .before .delivery .given .1) in omega (arith, e)
+add-t11 : tie.Need-add-t11
+add-t11 c = let e = ap size (c .before .before .before .delivery .given .1) in omega (arith, e)
 
 returns : tie.Need-returns
 unfolding progressed
@@ -28,4 +28,4 @@ returns-2 c = rw (c .before .before .before .delivery .given .1)
 
 pub progressed-spec : {M : Type 1} → statement M
 progressed-spec =
-    tie.close (tie.spec enum-told enum-known-delivery add-t8 add-t9 returns returns-2)
+    tie.close (tie.spec enum-told enum-known-delivery add-t10 add-t11 returns returns-2)

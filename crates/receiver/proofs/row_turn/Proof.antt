@@ -1,5 +1,5 @@
 -- `receiver::row_turn` meets its contract.
-use mathlib.Core.Path.{refl}
+use mathlib.Core.Path.{_≡_, refl}
 use native.Mathlib.Omega.{arith}
 use lib.ListN.{length}
 use borrow.Author.Needs.{needs}
@@ -8,6 +8,9 @@ use Rattle.receiver.specs.Run.{rowStep}
 use Rattle.receiver.proofs.Fits.{bundle-short, piece-long, part-to-end}
 use Rattle.receiver.proofs.row_turn.Statement.{statement}
 use Rattle.receiver.proofs.row_turn.Tie as tie
+
+long : (c : tie.Start) → (length (c .args .row .indexes) ≡ 64) × (length (c .args .row .lengths) ≡ 64)
+long c = (search needs, search needs)
 
 enum-told : tie.Need-enum-told
 enum-told c = search needs
@@ -44,14 +47,14 @@ cancelled-requires c κs = search needs
 
 returns : tie.Need-returns
 unfolding rowStep deliveryOf written
-returns c = rw (c .enum-told .given .1) record { row = refl; delivery = refl; cell = refl; output = refl }
+returns c = (rw (c .enum-told .given .1) record { row = refl; delivery = refl; cell = refl; output = refl }, long (c .before .before .before .before .before) .0, long (c .before .before .before .before .before) .1)
 
 same-length : tie.Need-same-length
 same-length c = search needs
 
 returns-2 : tie.Need-returns-2
 unfolding rowStep deliveryOf written
-returns-2 c = rw (c .before .before .before .before .enum-told2 .given .1) record { row = refl; delivery = refl; cell = refl; output = c .before .before .copy-into .ensures }
+returns-2 c = (rw (c .before .before .before .before .enum-told2 .given .1) record { row = refl; delivery = refl; cell = refl; output = c .before .before .copy-into .ensures }, long (c .before .before .before .before .before .before .before .before .before) .0, long (c .before .before .before .before .before .before .before .before .before) .1)
 
 same-length-2 : tie.Need-same-length-2
 same-length-2 c = search needs
@@ -61,11 +64,11 @@ same-length-3 c = search needs
 
 returns-3 : tie.Need-returns-3
 unfolding rowStep
-returns-3 c = rw (c .before .before .before .before .before .before .before .before .before .before .act .given .1, ← part-to-end 8 (c .before .before .before .before .before .before .before .before .before .before .before .before .before .before .before .args .content .now), ← c .before .before .before .before .before .before .before .before .number-at .ensures) (c .before .before .before .before .take-piece .ensures)
+returns-3 c = (rw (c .before .before .before .before .before .before .before .before .before .before .act .given .1, ← part-to-end 8 (c .before .before .before .before .before .before .before .before .before .before .before .before .before .before .before .args .content .now), ← c .before .before .before .before .before .before .before .before .number-at .ensures) (c .before .before .before .before .take-piece .ensures), long (c .before .before .before .before .before .before .before .before .before .before .before .before .before .before .before) .0, long (c .before .before .before .before .before .before .before .before .before .before .before .before .before .before .before) .1)
 
 returns-4 : tie.Need-returns-4
 unfolding rowStep cancelStep deliveryOf written
-returns-4 c = rw (c .before .enum-told3 .given .1) record { row = c .cancelled .ensures; delivery = refl; cell = refl; output = refl }
+returns-4 c = (rw (c .before .enum-told3 .given .1) record { row = c .cancelled .ensures; delivery = refl; cell = refl; output = refl }, long (c .before .before .before .before .before .before) .0, long (c .before .before .before .before .before .before) .1)
 
 pub row-turn-spec : {M : Type 1} → statement M
 row-turn-spec =

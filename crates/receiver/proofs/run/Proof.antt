@@ -2,11 +2,11 @@
 use mathlib.Core.Bool.{true, false, _&&_}
 use mathlib.Core.List.{List, []}
 use mathlib.Core.Logic.{⊎-elim}
-use mathlib.Core.Path.{subst, _≡_, sym, ap, _∙_}
-use Prim.Native.Nat.{_+_, _*_, _≤_, ℕ, _-_, _^_, _<_}
+use mathlib.Core.Path.{subst, _≡_, refl, sym, ap, _∙_}
+use Prim.Native.Nat.{_+_, _≤_, ℕ, _-_, _^_, _<_}
 use native.Mathlib.Omega.{arith}
 use lib.Dec.{ltb}
-use lib.ListN.{getD, take, drop, length}
+use lib.ListN.{getD, take, drop, set, length}
 use borrow.Author.Needs.{needs}
 use borrow.Author.Tests.{ltb-true}
 use Rattle.octets.proofs.Flags.{both}
@@ -17,22 +17,23 @@ use Rattle.wire.specs.declared.Reading.the-variants.{Good}
 use Rattle.wire.specs.declared.Span.{Span}
 use Rattle.wire.proofs.Spans.{Located}
 use Rattle.window.specs.Window.{windowSize, sixteen}
-use Rattle.reassembly.specs.Row.{Answers, soundRow, emptyRow, bundleMax}
+use Rattle.reassembly.specs.Row.{soundRow, emptyRow, bundleMax}
 use Rattle.reassembly.specs.declared.Delivery.{Delivery}
+use Rattle.reassembly.specs.declared.Delivery.the-variants.{Nothing}
 use Rattle.reassembly.specs.declared.Phase.the-variants.{Free}
 use Rattle.reassembly.specs.declared.Row.{Row}
 use Rattle.reassembly.specs.declared.Taken.{Taken}
 use Rattle.reassembly.proofs.Kept.{Shaped}
-use Rattle.receiver.specs.Message.{draft02}
+use Rattle.receiver.specs.Message.{draft02, cellAt}
 use Rattle.receiver.specs.Receive.{messagesFrom}
-use Rattle.receiver.specs.Run.{rowStep, progressed, size as delivery-size, admits, found, visitOf, Run, roomy, going}
+use Rattle.receiver.specs.Run.{rowStep, Lands, progressed, size as delivery-size, admits, visitOf, Run, roomy, going}
 use Rattle.receiver.specs.declared.Origin.{Origin}
+use Rattle.receiver.specs.declared.Origin.the-variants.{Whole}
 use Rattle.receiver.specs.declared.Progress.{Progress}
 use Rattle.receiver.specs.declared.Visit.{Visit}
-use Rattle.receiver.proofs.Cells.{lent-cell, length-part}
-use Rattle.receiver.proofs.Looping.{progressed-next, begins, ends, never-bad, turned, at<, count<, room, place, slot<, fits, admit, found-sound, cell-long, bundle-fits, size-fits, Going}
+use Rattle.receiver.proofs.Looping.{progressed-next, begins, ends, never-bad, passed, turned, at<, count<, room, place, slot<, fits, admit, found-sound, bundle-fits, size-fits, Going}
 use Rattle.receiver.proofs.Rows.{length-mapped, getD-any}
-use Rattle.receiver.proofs.Visits.{visited, cleared, cleared-some, cleared-none, cleared-full}
+use Rattle.receiver.proofs.Visits.{visited, rowsFor, rows-for-full, cleared, cleared-some, cleared-none, opened, opened-some, opened-none}
 use Rattle.receiver.proofs.run.Statement.{statement}
 use Rattle.receiver.proofs.run.Tie as tie
 
@@ -102,25 +103,19 @@ module _ (c : tie.After-known-told Inv-loop μ-loop) where
   admitted : (x : Visit) → x ≡ goal → admits (x .act) (length content) ≡ true
   admitted x e = rw e (admit (c .before .before .before .before .before .before .before .before .before .before .before .args .limit) frame first items size now (c .before .before .before .before .before .before .loop .inv) test span told small)
 
-  cell-size : (x : Visit) → x ≡ goal → length (take (x .slot * 4096 + 4096 - x .slot * 4096) (drop (x .slot * 4096) (now .board .pool))) ≡ 4096
-  cell-size x e = rw (lent-cell (now .board .pool) (x .slot), e) (cell-long (c .before .before .before .before .before .before .before .before .before .before .before .args .limit) frame first items size now (c .before .before .before .before .before .before .loop .inv) test span told)
-
-  part-size : 4096 ≤ length (take (length (now .output) - now .progress .used) (drop (now .progress .used) (now .output)))
-  part-size = let r = room (c .before .before .before .before .before .before .before .before .before .before .before .args .limit) frame first items size now (c .before .before .before .before .before .before .loop .inv) test span told in rw (length-part (now .output) (now .progress .used) (omega arith)) (omega arith)
-
-  row-is : (x : Visit) → x ≡ goal → (rows : List Row) → rows ≡ cleared windowSize (now .board .state .greatest) (x .entered) (now .board .state .rows)
-      → (r : Row) → r ≡ found (x .entered) (getD rows (x .slot) (emptyRow Free)) → r ≡ visited windowSize false (now .board) goal
+  row-is : (x : Visit) → x ≡ goal → (rows : List Row) → rows ≡ rowsFor windowSize false (now .board) x
+      → (r : Row) → r ≡ getD rows (x .slot) (emptyRow Free) → r ≡ visited windowSize false (now .board) goal
   row-is x ex rows er r ef = ef ∙ rw (er, ex)
 
   row-sound : (r : Row) → r ≡ visited windowSize false (now .board) goal → soundRow r ≡ true
   row-sound r e = rw e (found-sound (c .before .before .before .before .before .before .before .before .before .before .before .args .limit) frame first items size now (c .before .before .before .before .before .before .loop .inv) test span told)
 
-  delivered : (x : Visit) → x ≡ goal → (r : Row) → r ≡ visited windowSize false (now .board) goal → Shaped r → (t : Taken) (output cell′ output′ : List ℕ)
-      → Answers (rowStep false (x .act) content r (take (x .slot * 4096 + 4096 - x .slot * 4096) (drop (x .slot * 4096) (now .board .pool)))) output t cell′ output′
+  delivered : (x : Visit) → x ≡ goal → (r : Row) → r ≡ visited windowSize false (now .board) goal → Shaped r → (t : Taken) (pool output : List ℕ)
+      → Lands (rowStep false (x .act) content r (cellAt (now .board .pool) (x .slot))) (x .slot) (now .board .pool) (now .progress .used) (now .output) t pool output
       → (now .progress .count + 1 < 2 ^ 64) × (now .progress .used + delivery-size (t .delivery) < 2 ^ 64)
-  delivered x ex r er z t output cell′ output′ ans =
-      let o = rowStep false (x .act) content r (take (x .slot * 4096 + 4096 - x .slot * 4096) (drop (x .slot * 4096) (now .board .pool))) in
-      let fits = size-fits (o .bundle) bundleMax (λ y q. bundle-fits (c .before .before .before .before .before .before .before .before .before .before .before .args .limit) frame first items size now (c .before .before .before .before .before .before .loop .inv) test span told small (subst Shaped er z) y (rw (er, lent-cell (now .board .pool) (x .slot), ex) at q)) in
+  delivered x ex r er z t pool output ans =
+      let o = rowStep false (x .act) content r (cellAt (now .board .pool) (x .slot)) in
+      let fits = size-fits (o .bundle) bundleMax (λ y q. bundle-fits (c .before .before .before .before .before .before .before .before .before .before .before .args .limit) frame first items size now (c .before .before .before .before .before .before .loop .inv) test span told small (subst Shaped er z) y (rw (er, ex) at q)) in
       let s : delivery-size (t .delivery) ≤ bundleMax = rw (ans .delivery) fits in
       (omega (arith, count< (c .before .before .before .before .before .before .before .before .before .before .before .args .limit) frame first items size now (c .before .before .before .before .before .before .loop .inv) test span told, limits (c .before .before .before .before .before .before .before .before .before .before .before) .0), omega (arith, s, room (c .before .before .before .before .before .before .before .before .before .before .before .args .limit) frame first items size now (c .before .before .before .before .before .before .loop .inv) test span told, c .before .before .before .before .before .before .loop .inv .output, limits (c .before .before .before .before .before .before .before .before .before .before .before) .1))
 
@@ -129,26 +124,32 @@ module _ (c : tie.After-known-told Inv-loop μ-loop) where
       let n : q .next ≡ span .end = ap (λ (y : Progress). y .next) e ∙ progressed-next (now .progress) d (span .end) origin in
       rw n (omega (arith, located .later, at< (c .before .before .before .before .before .before .before .before .before .before .before .args .limit) frame first items size now (c .before .before .before .before .before .before .loop .inv) test span told))
 
-  cell-within : (x : Visit) → x ≡ goal → x .slot * 4096 + 4096 ≤ length (now .board .pool)
-  cell-within x e = omega (arith, slot-below x e, c .before .before .before .before .before .before .loop .inv .ready .pool)
-
-joined2 : (c : tie.Joined2 Inv-loop μ-loop) → c .if2 .rows ≡ cleared windowSize (c .before .before .before .before .before .before .before .before .before .before .loop .greatest) (c .before .before .visit-of .result .entered) (c .before .before .before .before .before .before .before .before .before .before .loop .rows)
+-- the rows that the message finds
+joined2 : (c : tie.Joined2 Inv-loop μ-loop) → c .if2 .rows ≡ cleared windowSize (c .before .before .before .before .before .before .before .before .before .before .before .loop .greatest) (c .before .before .visit-of .result .entered) (c .before .before .before .before .before .before .before .before .before .before .before .loop .rows)
 joined2 c =
-    let l = c .before .before .before .before .before .before .before .before .before .before .loop in
+    let l = c .before .before .before .before .before .before .before .before .before .before .before .loop in
     let d = c .before .before .visit-of .result .entered in
     ⊎-elim (λ w. w .2 ∙ w .1 .ensures ∙ cleared-some windowSize (l .greatest) d (l .rows) (w .0 .taken)) (λ w. w .1 ∙ cleared-none windowSize (l .greatest) d (l .rows) (w .0 .left)) (c .if2 .came)
 
-found-is : (c : tie.After-found Inv-loop μ-loop) → c .found .result ≡ found (c .before .before .before .before .visit-of .result .entered) (getD (c .before .before .if2 .rows) (c .before .before .before .before .visit-of .result .slot) (emptyRow Free))
-found-is c =
-    let x = c .before .before .before .before .visit-of in
-    let l = c .before .before .before .before .before .before .before .before .before .before .before .before .loop in
-    let h : x .result .slot < length (c .before .before .if2 .rows) = rw (joined2 (c .before .before)) (omega (arith, slot-below (c .before .before .before .before .before .before) (x .result) (x .ensures), cleared-full windowSize sixteen false (now (c .before .before .before .before .before .before) .board) (l .inv .ready) (x .result .entered))) in
-    c .found .ensures ∙ ap (found (x .result .entered)) (getD-any (c .before .before .if2 .rows) (x .result .slot) (record { phase = Free; known = false; last = 0; held = 0; indexes = []; lengths = [] }) (emptyRow Free) h)
+joined3 : (c : tie.Joined3 Inv-loop μ-loop) → c .if3 .rows ≡ rowsFor windowSize false (now (c .before .before .before .before .before .before .before) .board) (c .before .before .before .before .visit-of .result)
+joined3 c =
+    let v = c .before .before .before .before .visit-of .result in
+    let rows = c .before .before .if2 .rows in
+    ⊎-elim (λ w. w .2 ∙ ap (set rows (v .slot)) (w .1 .ensures) ∙ opened-some (v .slot) (v .entered) rows (w .0 .taken)) (λ w. w .1 ∙ opened-none (v .slot) (v .entered) rows (w .0 .left)) (c .if3 .came)
+    ∙ ap (opened (v .slot) (v .entered)) (joined2 (c .before .before))
 
-shaped : (c : tie.After-found Inv-loop μ-loop) → Shaped (c .found .result)
-shaped c = record { indexes64 = search needs; lengths64 = search needs }
+abbrev row : tie.After-cell-turn-arg Inv-loop μ-loop → Row
+row c = getD (c .before .if3 .rows) (c .before .before .before .before .before .visit-of .result .slot) (record { phase = Free; known = false; last = 0; held = 0; indexes = []; lengths = [] })
 
-low-after : (c : tie.After-found Inv-loop μ-loop) → c .before .before .before .before .visit-of .result .greatest < 2 ^ 32
+row-found : (c : tie.After-cell-turn-arg Inv-loop μ-loop) → row c ≡ getD (c .before .if3 .rows) (c .before .before .before .before .before .visit-of .result .slot) (emptyRow Free)
+row-found c =
+    let x = c .before .before .before .before .before .visit-of in
+    getD-any (c .before .if3 .rows) (x .result .slot) _ (emptyRow Free) (rw (joined3 (c .before)) (omega (arith, slot-below (c .before .before .before .before .before .before .before .before) (x .result) (x .ensures), rows-for-full windowSize sixteen false (now (c .before .before .before .before .before .before .before .before) .board) (c .before .before .before .before .before .before .before .before .before .before .before .before .before .before .loop .inv .ready) (x .result))))
+
+shaped : (c : tie.After-cell-turn Inv-loop μ-loop) → Shaped (row (c .before .before .before))
+shaped c = record { indexes64 = c .cell-turn .ensures .1; lengths64 = c .cell-turn .ensures .2 }
+
+low-after : (c : tie.After-cell-turn-arg Inv-loop μ-loop) → c .before .before .before .before .before .visit-of .result .greatest < 2 ^ 32
 low-after c = search needs
 
 loop-holds : tie.Need-loop-holds Inv-loop μ-loop
@@ -170,85 +171,79 @@ enum-known-r c = search needs
 enum-told : tie.Need-enum-told Inv-loop μ-loop
 enum-told c = search needs
 
+enum-told-2 : tie.Need-enum-told-2 Inv-loop μ-loop
+enum-told-2 c = search needs
+
+loop-less : tie.Need-loop-less Inv-loop μ-loop
+unfolding progressed
+loop-less c = later (c .before .before) _ Nothing Whole refl
+
+loop-again : tie.Need-loop-again Inv-loop μ-loop
+unfolding progressed
+loop-again c = let h = c .before .before in passed (c .before .before .before .before .before .before .before .before .before .before .before .before .before .args .limit) (frame h) (first h) (items h) (size h) (now h) (c .before .before .before .before .before .before .before .before .loop .inv) (test h) (span h) (told h) (c .enum-told2 .given .1)
+
 sub-content : tie.Need-sub-content Inv-loop μ-loop
-sub-content c = located c .ordered
+sub-content c = located (c .before) .ordered
 
 part-content-start : tie.Need-part-content-start Inv-loop μ-loop
-part-content-start c = omega (arith, located c .ordered, located c .within)
+part-content-start c = omega (arith, located (c .before) .ordered, located (c .before) .within)
 
 part-content-end : tie.Need-part-content-end Inv-loop μ-loop
-part-content-end c = omega (arith, located c .ordered, located c .within)
+part-content-end c = omega (arith, located (c .before) .ordered, located (c .before) .within)
 
 visit-of-requires : tie.Need-visit-of-requires Inv-loop μ-loop
-visit-of-requires c κs = fitted (c .before)
+visit-of-requires c κs = fitted (c .before .before)
 
 freed-requires : tie.Need-freed-requires Inv-loop μ-loop
 freed-requires c κs = search needs
 
-mul-base : tie.Need-mul-base Inv-loop μ-loop
-mul-base c = omega (arith, slot-below (c .before .before .before .before) (c .before .before .visit-of .result) (c .before .before .visit-of .ensures))
-
-add-top : tie.Need-add-top Inv-loop μ-loop
-add-top c = omega (arith, slot-below (c .before .before .before .before) (c .before .before .visit-of .result) (c .before .before .visit-of .ensures))
-
-mul-found : tie.Need-mul-found Inv-loop μ-loop
-mul-found c = omega (arith, slot-below (c .before .before .before .before) (c .before .before .visit-of .result) (c .before .before .visit-of .ensures))
-
-array-copy-out-found : tie.Need-array-copy-out-found Inv-loop μ-loop
-array-copy-out-found c = slot-below (c .before .before .before .before) (c .before .before .visit-of .result) (c .before .before .visit-of .ensures)
-
-found-requires : tie.Need-found-requires Inv-loop μ-loop
-found-requires c κs = search needs
-
-sub-row-turn : tie.Need-sub-row-turn Inv-loop μ-loop
-sub-row-turn c = omega arith
-
-part-row-turn-start : tie.Need-part-row-turn-start Inv-loop μ-loop
-part-row-turn-start c = omega (arith, cell-within (c .before .before .before .before .before .before) (c .before .before .before .before .visit-of .result) (c .before .before .before .before .visit-of .ensures))
-
-part-row-turn-end : tie.Need-part-row-turn-end Inv-loop μ-loop
-part-row-turn-end c = omega (arith, cell-within (c .before .before .before .before .before .before) (c .before .before .before .before .visit-of .result) (c .before .before .before .before .visit-of .ensures))
-
-sub-row-turn-2 : tie.Need-sub-row-turn-2 Inv-loop μ-loop
-sub-row-turn-2 c = let g = c .before .before .before .before .before .before .before .before .before .before .before .before .before .loop .inv in omega (arith, g .output, g .used)
-
-part-row-turn-start-2 : tie.Need-part-row-turn-start-2 Inv-loop μ-loop
-part-row-turn-start-2 c = let g = c .before .before .before .before .before .before .before .before .before .before .before .before .before .loop .inv in omega (arith, g .output, g .used)
-
-part-row-turn-end-2 : tie.Need-part-row-turn-end-2 Inv-loop μ-loop
-part-row-turn-end-2 c = let g = c .before .before .before .before .before .before .before .before .before .before .before .before .before .loop .inv in omega (arith, g .output, g .used)
-
-row-turn-requires : tie.Need-row-turn-requires Inv-loop μ-loop
-row-turn-requires c κs =
-    let x = c .before .before .before .before .before .before .visit-of in
-    let r = row-is (c .before .before .before .before .before .before .before .before) (x .result) (x .ensures) (c .before .before .before .before .if2 .rows) (joined2 (c .before .before .before .before)) (c .before .before .found .result) (found-is (c .before .before)) in
-    (row-sound (c .before .before .before .before .before .before .before .before) (c .before .before .found .result) r, admitted (c .before .before .before .before .before .before .before .before) (x .result) (x .ensures), cell-size (c .before .before .before .before .before .before .before .before) (x .result) (x .ensures), part-size (c .before .before .before .before .before .before .before .before))
+empty-row-requires : tie.Need-empty-row-requires Inv-loop μ-loop
+empty-row-requires c κs = search needs
 
 mul-rows : tie.Need-mul-rows Inv-loop μ-loop
-mul-rows c = omega (arith, slot-below (c .before .before .before .before .before .before .before .before .before .before .before .before .before .before) (c .before .before .before .before .before .before .before .before .before .before .before .before .visit-of .result) (c .before .before .before .before .before .before .before .before .before .before .before .before .visit-of .ensures))
+mul-rows c = omega (arith, slot-below (c .before .before .before .before .before .before .before .before) (c .before .before .before .before .before .visit-of .result) (c .before .before .before .before .before .visit-of .ensures))
 
 array-set-from-rows : tie.Need-array-set-from-rows Inv-loop μ-loop
-array-set-from-rows c = slot-below (c .before .before .before .before .before .before .before .before .before .before .before .before .before .before) (c .before .before .before .before .before .before .before .before .before .before .before .before .visit-of .result) (c .before .before .before .before .before .before .before .before .before .before .before .before .visit-of .ensures)
+array-set-from-rows c = slot-below (c .before .before .before .before .before .before .before .before) (c .before .before .before .before .before .visit-of .result) (c .before .before .before .before .before .visit-of .ensures)
+
+mul-cell-turn : tie.Need-mul-cell-turn Inv-loop μ-loop
+mul-cell-turn c = omega (arith, slot-below (c .before .before .before .before .before .before .before) (c .before .before .before .before .visit-of .result) (c .before .before .before .before .visit-of .ensures))
+
+array-copy-out-cell-turn : tie.Need-array-copy-out-cell-turn Inv-loop μ-loop
+array-copy-out-cell-turn c = slot-below (c .before .before .before .before .before .before .before) (c .before .before .before .before .visit-of .result) (c .before .before .before .before .visit-of .ensures)
+
+cell-turn-requires : tie.Need-cell-turn-requires Inv-loop μ-loop
+cell-turn-requires c κs =
+    let h = c .before .before .before .before .before .before .before .before .before .before in
+    let x = c .before .before .before .before .before .before .before .visit-of in
+    let r = row-is h (x .result) (x .ensures) (c .before .before .before .if3 .rows) (joined3 (c .before .before .before)) (row (c .before .before)) (row-found (c .before .before)) in
+    (row-sound h (row (c .before .before)) r, admitted h (x .result) (x .ensures), slot-below h (x .result) (x .ensures), c .before .before .before .before .before .before .before .before .before .before .before .before .before .before .before .before .loop .inv .ready .pool, room (c .before .before .before .before .before .before .before .before .before .before .before .before .before .before .before .before .before .before .before .before .before .args .limit) (frame h) (first h) (items h) (size h) (now h) (c .before .before .before .before .before .before .before .before .before .before .before .before .before .before .before .before .loop .inv) (test h) (span h) (told h))
+
+mul-rows-2 : tie.Need-mul-rows-2 Inv-loop μ-loop
+mul-rows-2 c = omega (arith, slot-below (c .before .before .before .before .before .before .before .before .before .before .before .before .before .before .before .before) (c .before .before .before .before .before .before .before .before .before .before .before .before .before .visit-of .result) (c .before .before .before .before .before .before .before .before .before .before .before .before .before .visit-of .ensures))
+
+array-set-from-rows-2 : tie.Need-array-set-from-rows-2 Inv-loop μ-loop
+array-set-from-rows-2 c = slot-below (c .before .before .before .before .before .before .before .before .before .before .before .before .before .before .before .before) (c .before .before .before .before .before .before .before .before .before .before .before .before .before .visit-of .result) (c .before .before .before .before .before .before .before .before .before .before .before .before .before .visit-of .ensures)
 
 progressed-requires : tie.Need-progressed-requires Inv-loop μ-loop
 progressed-requires c κs =
-    let x = c .before .before .before .before .before .before .before .before .before .before .before .before .visit-of in
-    let t = c .before .before .before .before .before .row-turn in
-    let r = row-is (c .before .before .before .before .before .before .before .before .before .before .before .before .before .before) (x .result) (x .ensures) (c .before .before .before .before .before .before .before .before .before .before .if2 .rows) (joined2 (c .before .before .before .before .before .before .before .before .before .before)) (c .before .before .before .before .before .before .before .before .found .result) (found-is (c .before .before .before .before .before .before .before .before)) in
-    delivered (c .before .before .before .before .before .before .before .before .before .before .before .before .before .before) (x .result) (x .ensures) (c .before .before .before .before .before .before .before .before .found .result) r (shaped (c .before .before .before .before .before .before .before .before)) (t .result) _ (t .last .1 .1 .0) (t .last .1 .1 .1 .1 .0) (t .ensures)
-
-loop-less : tie.Need-loop-less Inv-loop μ-loop
-loop-less c = later (c .before .before .before .before .before .before .before .before .before .before .before .before .before .before .before) (c .progressed .result) (c .before .before .before .before .before .before .row-turn .result .delivery) (c .before .before .before .before .before .before .before .before .before .before .before .before .before .visit-of .result .origin) (c .progressed .ensures)
-
-loop-again : tie.Need-loop-again Inv-loop μ-loop
-loop-again c =
-    let a = c .before .before .before .before .before .before .before .before .before .before .before .before .before .before .before .before .before .before .before .before .before .before .before .before .before .before .args in
+    let h = c .before .before .before .before .before .before .before .before .before .before .before .before .before .before .before .before in
     let x = c .before .before .before .before .before .before .before .before .before .before .before .before .before .visit-of in
-    let t = c .before .before .before .before .before .before .row-turn in
-    let h = c .before .before .before .before .before .before .before .before .before .before .before .before .before .before .before in
-    turned (a .limit) (frame h) (first h) (items h) (size h) (now h) (c .before .before .before .before .before .before .before .before .before .before .before .before .before .before .before .before .before .before .before .before .before .loop .inv) (test h) (span h) (told h) (small h) (x .result) (x .ensures)
-    (c .before .before .before .before .before .before .before .before .before .before .before .if2 .rows) (joined2 (c .before .before .before .before .before .before .before .before .before .before .before)) (c .before .before .before .before .before .before .before .before .before .found .result) (found-is (c .before .before .before .before .before .before .before .before .before)) (shaped (c .before .before .before .before .before .before .before .before .before)) (low-after (c .before .before .before .before .before .before .before .before .before))
-    (t .result) (t .last .1 .1 .0) (t .last .1 .1 .1 .1 .0) (t .ensures) (c .progressed .result) (c .progressed .ensures)
+    let t = c .before .before .before .before .before .cell-turn in
+    let r = row-is h (x .result) (x .ensures) (c .before .before .before .before .before .before .before .before .before .if3 .rows) (joined3 (c .before .before .before .before .before .before .before .before .before)) (row (c .before .before .before .before .before .before .before .before)) (row-found (c .before .before .before .before .before .before .before .before)) in
+    delivered h (x .result) (x .ensures) (row (c .before .before .before .before .before .before .before .before)) r (shaped (c .before .before .before .before .before)) (t .result) _ _ (t .ensures .0)
+
+loop-less-2 : tie.Need-loop-less-2 Inv-loop μ-loop
+loop-less-2 c = later (c .before .before .before .before .before .before .before .before .before .before .before .before .before .before .before .before .before) (c .progressed .result) (c .before .before .before .before .before .before .cell-turn .result .delivery) (c .before .before .before .before .before .before .before .before .before .before .before .before .before .before .visit-of .result .origin) (c .progressed .ensures)
+
+loop-again-2 : tie.Need-loop-again-2 Inv-loop μ-loop
+loop-again-2 c =
+    let h = c .before .before .before .before .before .before .before .before .before .before .before .before .before .before .before .before .before in
+    let x = c .before .before .before .before .before .before .before .before .before .before .before .before .before .before .visit-of in
+    let t = c .before .before .before .before .before .before .cell-turn in
+    turned (c .before .before .before .before .before .before .before .before .before .before .before .before .before .before .before .before .before .before .before .before .before .before .before .before .before .before .before .before .args .limit) (frame h) (first h) (items h) (size h) (now h) (c .before .before .before .before .before .before .before .before .before .before .before .before .before .before .before .before .before .before .before .before .before .before .before .loop .inv) (test h) (span h) (told h) (small h) (x .result) (x .ensures)
+    (c .before .before .before .before .before .before .before .before .before .before .if3 .rows) (joined3 (c .before .before .before .before .before .before .before .before .before .before)) (row (c .before .before .before .before .before .before .before .before .before)) (row-found (c .before .before .before .before .before .before .before .before .before)) (shaped (c .before .before .before .before .before .before)) (low-after (c .before .before .before .before .before .before .before .before .before))
+    (t .result) _ _ (t .ensures .0) (c .progressed .result) (c .progressed .ensures)
 
 same-length : tie.Need-same-length Inv-loop μ-loop
 same-length c = let g = c .before .before .loop .inv in g .ready .pool ∙ sym (c .before .before .before .before .before .before .before .pre .1)
@@ -289,28 +284,25 @@ run-spec =
     read-message-requires
     enum-known-r
     enum-told
+    enum-told-2
+    loop-less
+    loop-again
     sub-content
     part-content-start
     part-content-end
     visit-of-requires
     freed-requires
-    mul-base
-    add-top
-    mul-found
-    array-copy-out-found
-    found-requires
-    sub-row-turn
-    part-row-turn-start
-    part-row-turn-end
-    sub-row-turn-2
-    part-row-turn-start-2
-    part-row-turn-end-2
-    row-turn-requires
+    empty-row-requires
     mul-rows
     array-set-from-rows
+    mul-cell-turn
+    array-copy-out-cell-turn
+    cell-turn-requires
+    mul-rows-2
+    array-set-from-rows-2
     progressed-requires
-    loop-less
-    loop-again
+    loop-less-2
+    loop-again-2
     same-length
     same-length-2
     returns
