@@ -44,10 +44,15 @@ chain (suc n) xs =
 unfoldable pub hints : Bool → List ℕ → Chain
 hints hinted xs = cond hinted (chain (length xs) xs) (behind xs)
 
--- as the hint walk answers it
+-- how many octets that is
 unfoldable pub left : Chain → Hints
 left overrun = Overrun
 left (behind xs) = Left (length xs)
+
+-- as the hint walk answers it
+unfoldable pub walked : Chain → ℕ
+walked overrun = 0
+walked (behind xs) = 1 + length xs
 
 -- Whether a content has a length that its kind may have.
 unfoldable pub fitting : Kind → ℕ → Bool

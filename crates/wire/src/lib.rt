@@ -5,7 +5,7 @@ ghost use mathlib.Core.Path.{_≡_};
 ghost use Prim.Native.Nat.{_+_, _≤_, _<_};
 ghost use lib.ListN.{length, drop};
 ghost use Rattle.wire.specs.Message.{answer, faultNumber};
-ghost use Rattle.wire.specs.Layout.{zeros, kindOf, lengthField, chain, hints, left, fitting, bodied, read};
+ghost use Rattle.wire.specs.Layout.{zeros, kindOf, lengthField, chain, hints, left, walked, fitting, bodied, read};
 ghost use Rattle.wire.specs.Frame.{checked, readingChecked};
 
 pub enum Kind {
@@ -99,19 +99,20 @@ fn length_field(frame: &[u8], at: usize) -> usize
         + octets::octet_size(frame[at + 3])
 }
 
-// Walks the hint chain at the start of s.
-fn walk_hints(s: &[u8]) -> Hints
-    ensures { λ r. ⌜ r ≡ left (chain (length (now (s .entry))) (now (s .entry))) ⌝ }
+// Walks the hint chain at the start of s: one more than the octets that it leaves, or 0 where it runs past the end. (A number comes back
+// in a register; an enum is copied at every hint.)
+fn walk_hints(s: &[u8]) -> usize
+    ensures { λ r. ⌜ r ≡ walked (chain (length (now (s .entry))) (now (s .entry))) ⌝ }
 {
     if s.len() < 2 {
-        return Hints::Overrun;
+        return 0;
     }
     let value = octets::octet_size(s[1]);
     if s.len() - 2 < value {
-        return Hints::Overrun;
+        return 0;
     }
     if s[0] % 2 == 0 {
-        return Hints::Left(s.len() - 2 - value);
+        return s.len() - 2 - value + 1;
     }
     let from = 2 + value;
     walk_hints(&s[from..])
@@ -121,7 +122,11 @@ fn after_hints(s: &[u8], hinted: bool) -> Hints
     ensures { λ r. ⌜ r ≡ left (hints hinted (now (s .entry))) ⌝ }
 {
     if hinted {
-        return walk_hints(s);
+        let n = walk_hints(s);
+        if n == 0 {
+            return Hints::Overrun;
+        }
+        return Hints::Left(n - 1);
     }
     Hints::Left(s.len())
 }

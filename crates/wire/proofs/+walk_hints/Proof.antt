@@ -7,8 +7,7 @@ use mathlib.Core.Path.{_≡_, ap, _∙_}
 use mathlib.Core.List.{List}
 use lib.ListN.{getD, drop, take, length-drop}
 use lib.Seq.{take-all}
-use Rattle.wire.specs.Layout.{chain, left}
-use Rattle.wire.specs.declared.Hints.the-variants.{Left}
+use Rattle.wire.specs.Layout.{chain, walked}
 use Rattle.wire.proofs.Chains.{step, rest}
 use native.Mathlib.Omega.{arith}
 use borrow.Fn.Kinds.{In}
@@ -37,7 +36,7 @@ walk-hints-returns : (t : ℕ) → walk-hints-lts.Need-returns (
   walk-hints-below t,
   walk-hints.Post,
 ) (walk-hints-at t) walk-hints.Post
-unfolding left
+unfolding walked
 walk-hints-returns t c = rw step (simp (lt-ltb _ _ (c .if1 .taken)))
 
 walk-hints-shared-slice-read-octet-size :
@@ -71,7 +70,7 @@ walk-hints-returns-2 : (t : ℕ) → walk-hints-lts.Need-returns-2 (
   walk-hints-below t,
   walk-hints.Post,
 ) (walk-hints-at t) walk-hints.Post
-unfolding left
+unfolding walked
 walk-hints-returns-2 t c =
     let s : List ℕ = c .before .before .before .before .before .args .s .now in
     let v : length s < 2 + getD s 1 0 = omega arith in
@@ -85,21 +84,29 @@ walk-hints-shared-slice-read-if3 : (t : ℕ) → walk-hints-lts.Need-shared-slic
 ) (walk-hints-at t) walk-hints.Post
 walk-hints-shared-slice-read-if3 t c = search needs
 
-walk-hints-sub-t12 : (t : ℕ) → walk-hints-lts.Need-sub-t12 (
+walk-hints-sub-result : (t : ℕ) → walk-hints-lts.Need-sub-result (
   octet-size-reads.Asked,
   octet-size-reads.Learnt,
   walk-hints-below t,
   walk-hints.Post,
 ) (walk-hints-at t) walk-hints.Post
-walk-hints-sub-t12 t c = search needs
+walk-hints-sub-result t c = search needs
 
-walk-hints-sub-t13 : (t : ℕ) → walk-hints-lts.Need-sub-t13 (
+walk-hints-sub-result-2 : (t : ℕ) → walk-hints-lts.Need-sub-result-2 (
   octet-size-reads.Asked,
   octet-size-reads.Learnt,
   walk-hints-below t,
   walk-hints.Post,
 ) (walk-hints-at t) walk-hints.Post
-walk-hints-sub-t13 t c = search needs
+walk-hints-sub-result-2 t c = search needs
+
+walk-hints-add-result : (t : ℕ) → walk-hints-lts.Need-add-result (
+  octet-size-reads.Asked,
+  octet-size-reads.Learnt,
+  walk-hints-below t,
+  walk-hints.Post,
+) (walk-hints-at t) walk-hints.Post
+walk-hints-add-result t c = search needs
 
 walk-hints-returns-3 : (t : ℕ) → walk-hints-lts.Need-returns-3 (
   octet-size-reads.Asked,
@@ -107,12 +114,12 @@ walk-hints-returns-3 : (t : ℕ) → walk-hints-lts.Need-returns-3 (
   walk-hints-below t,
   walk-hints.Post,
 ) (walk-hints-at t) walk-hints.Post
-unfolding left
+unfolding walked
 walk-hints-returns-3 t c =
     let s : List ℕ = c .before .before .before .before .before .before .before .args .s .now in
     let v : 2 + getD s 1 0 ≤ length s = omega arith in
     rw step (simp (le-ltb _ 2 (c .before .before .before .before .before .if1 .left), le-ltb _ _ v, eq-eqb _ _ (c .if3 .taken), length-drop)
-    (ap Left (omega arith)))
+    (omega arith))
 
 walk-hints-add-from : (t : ℕ) → walk-hints-lts.Need-add-from (
   octet-size-reads.Asked,
@@ -160,7 +167,6 @@ walk-hints-returns-4 : (t : ℕ) → walk-hints-lts.Need-returns-4 (
   walk-hints-below t,
   walk-hints.Post,
 ) (walk-hints-at t) walk-hints.Post
-unfolding left
 walk-hints-returns-4 t c =
     let s : List ℕ = c .before .before .before .before .before .before .before .before .before .args .s .now in
     let value : ℕ = c .before .before .before .before .before .octet-size .result in
@@ -168,7 +174,7 @@ walk-hints-returns-4 t c =
     let part : take (length s - (2 + value)) (drop (2 + value) s) ≡ rest s =
     take-all (length s - (2 + value)) (drop (2 + value) s) (simp length-drop (omega arith)) ∙ ap (λ (k : ℕ). drop (2 + k) s) (c .before .before .before .before .before .octet-size .ensures .0) in
     rw step (simp (le-ltb _ 2 (c .before .before .before .before .before .before .before .if1 .left), le-ltb _ _ v, ne-eqb _ _ (c .before .before .if3 .left))
-    (c .walk-hints .ensures ∙ ap (λ (l : List ℕ). left (chain (length l) l)) part))
+    (c .walk-hints .ensures ∙ ap (λ (l : List ℕ). walked (chain (length l) l)) part))
 
 pub +walk-hints-spec : {M : Type 1} → statement M
 +walk-hints-spec = close μ-walk-hints λ t. walk-hints-lts.spec (
@@ -185,8 +191,9 @@ pub +walk-hints-spec : {M : Type 1} → statement M
     (walk-hints-sub-if2 t)
     (walk-hints-returns-2 t)
     (walk-hints-shared-slice-read-if3 t)
-    (walk-hints-sub-t12 t)
-    (walk-hints-sub-t13 t)
+    (walk-hints-sub-result t)
+    (walk-hints-sub-result-2 t)
+    (walk-hints-add-result t)
     (walk-hints-returns-3 t)
     (walk-hints-add-from t)
     (walk-hints-sub-walk-hints t)
