@@ -1,11 +1,11 @@
--- Items of one width, read and written one by one.
-use mathlib.Core.List.{List, [], _∷_, _++_, append-assoc, append-nil}
-use mathlib.Core.Path.{_≡_, sym, ap, _∙_}
+-- Items of one width, read and written one by one; items changed one by one in their place.
+use mathlib.Core.List.{List, [], _∷_, _++_, map, append-assoc, append-nil}
+use mathlib.Core.Path.{_≡_, refl, sym, ap, _∙_}
 use Prim.Native.Nat.{ℕ, zero, suc, _+_, _*_, _≤_, _<_}
 use native.Mathlib.Nat.{add-comm, zero-mul, suc-mul}
 use native.Mathlib.Numerals.{add-one}
 use native.Mathlib.Omega.{arith}
-use lib.ListN.{length, getD, take, drop, set, length-append}
+use lib.ListN.{length, getD, take, drop, set, length-append, drop-of-length-le}
 use lib.Seq.{take-all, take-suc, take-suc-set, drop-drop}
 use Rattle.octets.specs.Octets.{put}
 use Rattle.octets.proofs.Put.{put-put}
@@ -50,3 +50,26 @@ module _ {A : Type 0} (f : A → List ℕ) (g : List A → List ℕ) (none : g [
 
   pub write-end : (d d′ : List ℕ) (items : List A) (at k : ℕ) → d′ ≡ put d at (g (take k items)) → length items ≤ k → d′ ≡ put d at (g items)
   write-end d d′ items at k e h = e ∙ rw (take-all k items h)
+
+pub map-set : {A B : Type 0} (f : A → B) (xs : List A) (k : ℕ) (v : A) → map f (set xs k v) ≡ set (map f xs) k (f v)
+map-set f [] k v = refl
+map-set f (x ∷ xs) zero v = refl
+map-set {B = B} f (x ∷ xs) (suc k) v = ap (λ (ys : List B). f x ∷ ys) (map-set f xs k v)
+
+-- a loop that puts f of each item in its place
+module _ {A : Type 0} (f : A → A) where
+  -- f of the items from k on
+  abbrev pub mapFrom : ℕ → List A → List A
+  mapFrom k xs = take k xs ++ map f (drop k xs)
+
+  map-next : (xs : List A) (k : ℕ) (z : A) → mapFrom (suc k) (set xs k (f (getD xs k z))) ≡ mapFrom k xs
+  map-next [] zero z = refl
+  map-next [] (suc k) z = refl
+  map-next (x ∷ xs) zero z = refl
+  map-next (x ∷ xs) (suc k) z = ap (λ (ys : List A). x ∷ ys) (map-next xs k z)
+
+  pub map-turn : (xs : List A) (k : ℕ) (z : A) → mapFrom (k + 1) (set xs k (f (getD xs k z))) ≡ mapFrom k xs
+  map-turn xs k z = rw (add-one k) (map-next xs k z)
+
+  pub map-end : (xs : List A) (k : ℕ) → length xs ≤ k → mapFrom k xs ≡ xs
+  map-end xs k h = rw (take-all k xs h, drop-of-length-le xs h) (append-nil xs)

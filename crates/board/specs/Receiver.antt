@@ -41,6 +41,10 @@ unfoldable pub pairs : ℕ → List ℕ → List ℕ
 pairs zero xs = []
 pairs (suc n) xs = number16 xs ∷ pairs n (drop 2 xs)
 
+-- the two octets of a number exchanged
+abbrev pub exchange : ℕ → ℕ
+exchange n = n % 256 * 256 + n / 256
+
 unfoldable pub rowOf : List ℕ → Row
 rowOf xs =
     record {

@@ -6,7 +6,7 @@ use receiver::Origin;
 use receiver::Refusal;
 use receiver::State;
 ghost use mathlib.Core.Path.{_≡_};
-ghost use mathlib.Core.List.{List};
+ghost use mathlib.Core.List.{List, map};
 ghost use Prim.Native.Nat.{ℕ, _+_, _*_, _≤_};
 ghost use lib.ListN.{length, take, drop};
 ghost use Rattle.octets.specs.Octets.{put};
@@ -74,17 +74,46 @@ fn indexes_of(image: &[u8], at: usize) -> [u8; 64]
     indexes
 }
 
+// Numbers of two octets, low octet first: the order in which this machine reads two octets at once.
+fn pairs_of(image: &[u8], at: usize) -> [u16; 64]
+    requires { ⌜ at + 128 ≤ length (now image) ⌝ }
+    ensures { λ r. ⌜ map Spec.exchange r ≡ Spec.pairs 64 (drop at (now (image .entry))) ⌝ }
+{
+    let mut pairs = [0u16; 64];
+    let mut j = 0;
+    while j < 64 {
+        let from = at + j * 2;
+        pairs[j] = octets::octet16(image[from + 1]) * 256 + octets::octet16(image[from]);
+        j += 1;
+    }
+    pairs
+}
+
+// The two octets of a number exchanged.
+fn exchange(x: u16) -> u16
+    ensures { λ r. ⌜ r ≡ Spec.exchange x ⌝ }
+{
+    x % 256 * 256 + x / 256
+}
+
+fn exchanged(pairs: [u16; 64]) -> [u16; 64]
+    ensures { λ r. ⌜ r ≡ map Spec.exchange pairs ⌝ }
+{
+    let mut next = pairs;
+    let mut j = 0;
+    while j < 64 {
+        next[j] = exchange(next[j]);
+        j += 1;
+    }
+    next
+}
+
+// Read as the machine reads and then exchanged, a row's lengths take two vector loops; read octet by octet they take most of a call.
 fn lengths_of(image: &[u8], at: usize) -> [u16; 64]
     requires { ⌜ at + 128 ≤ length (now image) ⌝ }
     ensures { λ r. ⌜ r ≡ Spec.pairs 64 (drop at (now (image .entry))) ⌝ }
 {
-    let mut lengths = [0u16; 64];
-    let mut j = 0;
-    while j < 64 {
-        lengths[j] = octets::number16_at(image, at + j * 2);
-        j += 1;
-    }
-    lengths
+    exchanged(pairs_of(image, at))
 }
 
 // The row whose octets start at `at`.
