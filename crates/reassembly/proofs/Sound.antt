@@ -9,7 +9,7 @@ use lib.ListN.{length, take, drop}
 use lib.Seq.{length-take-le}
 use lib.Dec.{eqb, ltb, leb}
 use borrow.Author.Tests.{eqb-true, eqb-false, eq-eqb, ne-eqb, ltb-false, leb-true, not-true}
-use Rattle.octets.proofs.Flags.{bool, both, or-cases, or-left, or-right, neither}
+use Rattle.octets.proofs.Flags.{bool, both, or-cases, or-left, or-right, neither, cond-elim}
 use Rattle.reassembly.specs.declared.Row.{Row}
 use Rattle.reassembly.specs.Row.{bundleMax, has, hasAbove, hasAll, distinct, sumOf, isZeros, lowAndDistinct, indexesOf, lengthsOf, isOpen, soundLast, zeroFrom, soundPieces, soundOpen, soundEmpty, soundRow}
 
@@ -27,34 +27,59 @@ unfoldable lack : ℕ → List ℕ → ℕ
 lack zero is = 0
 lack (suc n) is = cond (has n is) 0 1 + lack n is
 
+lack-below : (m i : ℕ) (is : List ℕ) → m ≤ i → lack m is ≡ lack m (i ∷ is)
+unfolding lack has
+lack-below zero i is le = refl
+lack-below (suc m) i is le = let z : eqb i m ≡ false = ne-eqb i m (omega arith) in rw (z, lack-below m i is (omega arith))
+
 lack-cons : (n i : ℕ) (is : List ℕ) → has i is ≡ false → i < n → lack n is ≡ 1 + lack n (i ∷ is)
 unfolding lack has
 lack-cons zero i is h i< = absurd (omega arith)
 lack-cons (suc n) i is h i< = go (lack-cons n i is h) (bool (eqb i n))
   where
-    same : (m : ℕ) → m ≤ i → lack m is ≡ lack m (i ∷ is)
-    same zero le = refl
-    same (suc m) le = let z : eqb i m ≡ false = ne-eqb i m (omega arith) in rw (z, same m (omega arith))
-
     go : (i < n → lack n is ≡ 1 + lack n (i ∷ is)) → (eqb i n ≡ true) ⊎ (eqb i n ≡ false) → lack (suc n) is ≡ 1 + lack (suc n) (i ∷ is)
     go ih (inl e) =
         let q : i ≡ n = eqb-true i n e in
         let h′ : has n is ≡ false = rw (← q) h in
-        rw (e, h′) (omega (arith, same n (omega arith)))
+        rw (e, h′) (omega (arith, lack-below n i is (omega arith)))
     go ih (inr e) = let ne : i ≡ n → ⊥ = eqb-false i n e in rw e (omega (arith, ih (omega arith)))
 
+lack-nil : (n : ℕ) → lack n [] ≡ n
+unfolding lack has
+lack-nil zero = refl
+lack-nil (suc n) = omega (arith, lack-nil n)
+
 held-and-lacking : (n : ℕ) (is : List ℕ) → distinct is ≡ true → ((j : ℕ) → has j is ≡ true → j < n) → length is + lack n is ≡ n
-unfolding distinct has lack
-held-and-lacking n [] d b = none-held n
-  where
-    none-held : (m : ℕ) → 0 + lack m [] ≡ m
-    none-held zero = refl
-    none-held (suc m) = omega (arith, none-held m)
+unfolding distinct has
+held-and-lacking n [] d b = omega (arith, lack-nil n)
 held-and-lacking n (i ∷ is) d b =
     let p = both (not (has i is)) (distinct is) d in
     let less = held-and-lacking n is (p .1) (λ j h. b j (or-right (eqb i j) (has j is) h)) in
     let i< : i < n = b i (or-left (eqb i i) (has i is) (eq-eqb i i refl)) in
     omega (arith, less, lack-cons n i is (not-true (has i is) (p .0)) i<)
+
+lack-less : (n i : ℕ) (is : List ℕ) → lack n is ≤ 1 + lack n (i ∷ is)
+unfolding lack has
+lack-less zero i is = omega arith
+lack-less (suc n) i is = go (lack-less n i is) (bool (eqb i n))
+  where
+    go : lack n is ≤ 1 + lack n (i ∷ is) → (eqb i n ≡ true) ⊎ (eqb i n ≡ false) → lack (suc n) is ≤ 1 + lack (suc n) (i ∷ is)
+    go ih (inl e) =
+        let one = cond-elim (λ (k : ℕ). k ≤ 1) (has n is) {x = 0} {y = 1} (λ h. omega arith) (λ h. omega arith) in
+        rw e (omega (arith, one, lack-below n i is (omega (arith, eqb-true i n e))))
+    go ih (inr e) = rw e (omega (arith, ih))
+
+lack-length : (n : ℕ) (is : List ℕ) → n ≤ length is + lack n is
+lack-length n [] = omega (arith, lack-nil n)
+lack-length n (i ∷ is) = omega (arith, lack-less n i is, lack-length n is)
+
+lack-none : (n : ℕ) (is : List ℕ) → hasAll n is ≡ true → lack n is ≡ 0
+unfolding lack hasAll
+lack-none zero is h = refl
+lack-none (suc n) is h = let p = both (has n is) (hasAll n is) h in rw (p .0) (omega (arith, lack-none n is (p .1)))
+
+pub all-count : (n : ℕ) (is : List ℕ) → hasAll n is ≡ true → n ≤ length is
+all-count n is h = omega (arith, lack-length n is, lack-none n is h)
 
 -- what holds of any sound row
 pub record Sound (r : Row) : Type 0 where

@@ -1,6 +1,6 @@
 // The row of one transfer: the row rules, completeness, joining, and what makes a row sound.
 ghost use mathlib.Core.Path.{_≡_};
-ghost use mathlib.Core.Bool.{true, false};
+ghost use mathlib.Core.Bool.{true, false, _&&_};
 ghost use Prim.Native.Nat.{_+_, _*_, _≤_, _<_};
 ghost use lib.ListN.{length, take};
 ghost use Rattle.octets.specs.Octets.{put};
@@ -139,13 +139,13 @@ fn octets_held(lengths: &[u16], held: usize) -> usize
     requires { ⌜ (held ≤ length (now lengths)) × (held ≤ 64) ⌝ }
     ensures { λ r. ⌜ r ≡ Spec.sumOf (take held (now (lengths .entry))) ⌝ }
 {
-    let mut sum = 0;
+    let mut sum = 0u32;
     let mut k = 0;
     while k < held {
-        sum += lengths[k] as usize;
+        sum += lengths[k] as u32;
         k += 1;
     }
-    sum
+    sum as usize
 }
 
 // The four contradictions of a segment or an end with this index.
@@ -281,28 +281,6 @@ fn last_after(last: u8, index: u8, ending: bool) -> u8
     last
 }
 
-// The row and the cell with one piece more, whose octets lie from `at` on.
-fn with_piece(row: Row, cell: &mut [u8], at: usize, index: u8, payload: &[u8], ending: bool) -> Row
-    requires { ⌜ (row .held < 64) × (at + length (now payload) ≤ bundleMax) × (length (now cell) ≡ bundleMax) ⌝ }
-    ensures { λ r. ⌜ (r ≡ Spec.withPiece row ending index (length (now (payload .entry)))) × (now (cell .exit) ≡ put (now (cell .entry)) at (now (payload .entry))) ⌝ }
-{
-    let held = row.held;
-    let n = payload.len();
-    let mut indexes = row.indexes;
-    let mut lengths = row.lengths;
-    octets::copy_into(cell, at, payload);
-    indexes[held] = index;
-    lengths[held] = n as u16;
-    Row {
-        phase: Phase::Open,
-        known: row.known | ending,
-        last: last_after(row.last, index, ending),
-        held: held + 1,
-        indexes,
-        lengths,
-    }
-}
-
 // Steps 2 to 6 of the row rules, for a row that takes messages.
 fn judge_live(row: Row, index: u32, length: usize, ending: bool) -> Verdict
     requires { ⌜ Spec.soundRow row ≡ true ⌝ }
@@ -368,31 +346,43 @@ fn join<'a>(
     at
 }
 
-// Whether a row has all its pieces.
-fn is_complete(row: Row) -> bool
-    requires { ⌜ (row .held ≤ 64) × (row .last < 64) ⌝ }
-    ensures { λ r. ⌜ r ≡ Spec.complete row ⌝ }
+// Whether the final index is known and every index up to it is held; a count of the pieces below it rules that out without a search.
+fn is_complete(known: bool, last: u8, indexes: &[u8], held: usize) -> bool
+    requires { ⌜ (held ≤ length (now indexes)) × (last < 64) ⌝ }
+    ensures { λ r. ⌜ r ≡ (known && Spec.hasAll (last + 1) (take held (now (indexes .entry)))) ⌝ }
 {
-    if row.known {
-        return all_held(&row.indexes[..], row.held, row.last);
+    if known & (octets::octet_size(last) < held) {
+        return all_held(indexes, held, last);
     }
     false
 }
 
-// A complete row's bundle goes to the front of `out`, and the row is done.
-fn settle(row: Row, cell: &[u8], out: &mut [u8]) -> Taken
-    requires { ⌜ (row .held ≤ 64) × (row .last < 64) × (Spec.sumOf (Spec.lengthsOf row) ≤ length (now cell)) × (Spec.sumOf (Spec.lengthsOf row) ≤ length (now out)) ⌝ }
-    ensures { λ r. ⌜ Spec.Answers (Spec.settle false row (now (cell .entry))) (now (out .entry)) r (now (cell .entry)) (now (out .exit)) ⌝ }
+// The row and the cell with one piece more, whose octets lie from `at` on. Where that completes the row, its bundle goes to the front
+// of `out`, and the row is done.
+fn accept(
+    row: Row,
+    cell: &mut [u8],
+    at: usize,
+    index: u8,
+    payload: &[u8],
+    ending: bool,
+    out: &mut [u8],
+) -> Taken
+    requires { ⌜ (row .held < 64) × (at + length (now payload) ≤ bundleMax) × (length (now cell) ≡ bundleMax) × (bundleMax ≤ length (now out)) ⌝ }
+    requires { ⌜ (Spec.lastAfter (row .last) index ending < 64) × (Spec.sumOf (Spec.lengthsOf (Spec.withPiece row ending index (length (now payload)))) ≤ bundleMax) ⌝ }
+    ensures { λ r. ⌜ Spec.Answers (Spec.settle false (Spec.withPiece row ending index (length (now (payload .entry)))) (put (now (cell .entry)) at (now (payload .entry)))) (now (out .entry)) r (now (cell .exit)) (now (out .exit)) ⌝ }
 {
-    if is_complete(row) {
-        let n = join(
-            &row.indexes[..],
-            &row.lengths[..],
-            row.held,
-            row.last,
-            cell,
-            out,
-        );
+    let held = row.held;
+    let n = payload.len();
+    let mut indexes = row.indexes;
+    let mut lengths = row.lengths;
+    indexes[held] = index;
+    lengths[held] = n as u16;
+    octets::copy_into(cell, at, payload);
+    let known = row.known | ending;
+    let last = last_after(row.last, index, ending);
+    if is_complete(known, last, &indexes[..], held + 1) {
+        let n = join(&indexes[..], &lengths[..], held + 1, last, cell, out);
         return Taken {
             delivery: Delivery::Bundle(n),
             row: empty_row(Phase::Done),
@@ -400,7 +390,14 @@ fn settle(row: Row, cell: &[u8], out: &mut [u8]) -> Taken
     }
     Taken {
         delivery: Delivery::Nothing,
-        row,
+        row: Row {
+            phase: Phase::Open,
+            known,
+            last,
+            held: held + 1,
+            indexes,
+            lengths,
+        },
     }
 }
 
@@ -426,10 +423,7 @@ pub fn take_piece(
             delivery: Delivery::Nothing,
             row: empty_row(Phase::Abandoned),
         },
-        Verdict::Accepts(at) => {
-            let next = with_piece(row, cell, at, index as u8, payload, ending);
-            settle(next, cell, out)
-        }
+        Verdict::Accepts(at) => { accept(row, cell, at, index as u8, payload, ending, out) }
     }
 }
 
@@ -448,7 +442,7 @@ fn sound_last(row: Row) -> bool
             if s.above {
                 return false;
             }
-            let all = all_held(&row.indexes[..], held, last);
+            let all = is_complete(row.known, last, &row.indexes[..], held);
             return !all;
         }
         return false;

@@ -39,6 +39,9 @@ loop-less c = search needs
 loop-again : tie.Need-loop-again Inv-loop μ-loop
 loop-again c = let l = c .before .before .loop in let a = c .before .before .before .args in (omega (arith, sum-turn (l .k) (a .held) (a .lengths .now) (omega arith) (omega arith)), omega (arith, c .shared-slice-known .given (c .before .before .loop .k)), omega arith)
 
+cast-result : tie.Need-cast-result Inv-loop μ-loop
+cast-result c = search needs
+
 returns : tie.Need-returns Inv-loop μ-loop
 returns c = let l = c .before .loop in let a = c .before .before .args in omega (arith, sum-end (l .k) (a .held) (a .lengths .now) (omega arith) (omega arith))
 
@@ -56,4 +59,5 @@ octets-held-spec =
     add-k
     loop-less
     loop-again
+    cast-result
     returns)

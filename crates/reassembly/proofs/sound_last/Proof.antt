@@ -15,16 +15,16 @@ returns : tie.Need-returns
 unfolding soundLast indexesOf
 returns c = rw (← c .before .before .scan-for .ensures .held, ← c .before .before .scan-for .ensures .above, c .before .before .before .before .before .before .if1 .taken, c .before .if2 .taken, c .if3 .taken)
 
-all-held-requires : tie.Need-all-held-requires
+is-complete-requires : tie.Need-is-complete-requires
 unfolding indexesOf
-all-held-requires c κs =
+is-complete-requires c κs =
     let a = c .before .before .before .before .before .before .before .before .before .before .args in
     let p = c .before .before .before .before .before .before .before .before .before .before .pre in
     (omega arith, omega (arith, above-has 63 (a .t1 .last) (take (a .t1 .held) (a .t1 .indexes)) (p .1) (sym (c .before .before .before .before .before .scan-for .ensures .held) ∙ c .before .before .before .before .if2 .taken)))
 
 returns-2 : tie.Need-returns-2
 unfolding soundLast indexesOf
-returns-2 c = rw (← c .before .before .before .before .before .before .scan-for .ensures .held, ← c .before .before .before .before .before .before .scan-for .ensures .above, c .before .before .before .before .before .before .before .before .before .before .if1 .taken, c .before .before .before .before .before .if2 .taken, c .before .before .before .before .if3 .left, ← c .all-held .ensures)
+returns-2 c = rw (c .is-complete .ensures, ← c .before .before .before .before .before .before .scan-for .ensures .held, ← c .before .before .before .before .before .before .scan-for .ensures .above, c .before .before .before .before .before .before .before .before .before .before .if1 .taken, c .before .before .before .before .before .if2 .taken, c .before .before .before .before .if3 .left)
 
 returns-3 : tie.Need-returns-3
 unfolding soundLast indexesOf
@@ -36,4 +36,4 @@ returns-4 c = rw (c .if1 .left)
 
 pub sound-last-spec : {M : Type 1} → statement M
 sound-last-spec =
-    tie.close (tie.spec scan-for-requires returns all-held-requires returns-2 returns-3 returns-4)
+    tie.close (tie.spec scan-for-requires returns is-complete-requires returns-2 returns-3 returns-4)

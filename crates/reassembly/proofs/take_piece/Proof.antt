@@ -13,12 +13,12 @@ use Rattle.reassembly.proofs.take_piece.Tie as tie
 shaped : (c : tie.Start) → Shaped (c .args .row)
 shaped c = record { indexes64 = search needs; lengths64 = search needs }
 
-taken : (c : tie.After-with-piece-arg) →
+taken : (c : tie.After-accept-arg) →
     let a = c .before .before .before .before .before .before .before .before .args in
     Accepted (a .row) (a .ending) (a .index) (length (a .payload .now)) × (c .before .before .v .given .0 .0 ≡ sumOf (lengthsOf (a .row)))
 taken c = accepted _ _ _ _ _ (sym (c .before .before .before .before .judge .ensures) ∙ c .before .before .v .given .1)
 
-next : (c : tie.After-with-piece-arg) →
+next : (c : tie.After-accept-arg) →
     let a = c .before .before .before .before .before .before .before .before .args in
     Joinable (withPiece (a .row) (a .ending) (a .index) (length (a .payload .now)))
 next c = let s = c .before .before .before .before .before .before .before .before in joinable _ _ _ _ (sound-facts _ (s .pre .0)) (shaped s) (taken c .0)
@@ -38,21 +38,16 @@ empty-row-requires c κs = search needs
 enum-known-v : tie.Need-enum-known-v
 enum-known-v c = search needs
 
-cast-with-piece : tie.Need-cast-with-piece
-cast-with-piece c = omega (arith, taken c .0 .low)
+cast-accept : tie.Need-cast-accept
+cast-accept c = omega (arith, taken c .0 .low)
 
-with-piece-requires : tie.Need-with-piece-requires
+accept-requires : tie.Need-accept-requires
 unfolding withPiece
-with-piece-requires c κs =
-    let a = taken c in
-    (omega (arith, next c .few), omega (arith, a .0 .fits, a .1), c .before .before .before .before .before .before .before .before .pre .1)
-
-settle-requires : tie.Need-settle-requires
-settle-requires c κs =
-    let p = c .before .before .before .before .before .before .before .before .before .before .before .before .before .pre in
-    let w = c .before .before .before .before .with-piece in
-    let j = next (c .before .before .before .before .before) in
-    rw (w .ensures .0) (j .few, j .last, omega (arith, j .fits, w .kept .1 .0, p .1), omega (arith, j .fits, p .2))
+accept-requires c κs =
+    let p = c .before .before .before .before .before .before .before .before .before .pre in
+    let a = taken (c .before) in
+    let j = next (c .before) in
+    ((omega (arith, j .few), omega (arith, a .0 .fits, a .1), p .1, p .2), (j .last, j .fits))
 
 returns : tie.Need-returns
 unfolding pieceStep carryOut deliveryOf written
@@ -70,9 +65,7 @@ same-length-2 c = search needs
 
 returns-3 : tie.Need-returns-3
 unfolding pieceStep carryOut
-returns-3 c =
-    let w = c .before .before .before .before .before .before .before in
-    rw (← w .before .before .before .before .before .judge .ensures, w .before .before .before .v .given .1, ← w .with-piece .ensures .0, ← w .with-piece .ensures .1) (c .before .before .settle .ensures)
+returns-3 c = rw (← c .before .before .before .before .before .before .before .before .before .before .judge .ensures, c .before .before .before .before .before .before .before .before .v .given .1) (c .before .before .before .before .accept .ensures)
 
 pub take-piece-spec : {M : Type 1} → statement M
 take-piece-spec =
@@ -83,9 +76,8 @@ take-piece-spec =
     enum-told-2
     empty-row-requires
     enum-known-v
-    cast-with-piece
-    with-piece-requires
-    settle-requires
+    cast-accept
+    accept-requires
     returns
     returns-2
     same-length
