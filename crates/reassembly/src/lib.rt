@@ -382,9 +382,9 @@ fn accept(
     let known = row.known | ending;
     let last = last_after(row.last, index, ending);
     if is_complete(known, last, &indexes[..], held + 1) {
-        let n = join(&indexes[..], &lengths[..], held + 1, last, cell, out);
+        let size = join(&indexes[..], &lengths[..], held + 1, last, cell, out);
         return Taken {
-            delivery: Delivery::Bundle(n),
+            delivery: Delivery::Bundle(size),
             row: empty_row(Phase::Done),
         };
     }
