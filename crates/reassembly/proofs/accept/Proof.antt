@@ -12,16 +12,16 @@ shaped : (c : tie.Start) → Shaped (c .args .row)
 shaped c = record { indexes64 = search needs; lengths64 = search needs }
 
 array-write-indexes : tie.Need-array-write-indexes
-array-write-indexes c = search needs
+array-write-indexes c = omega arith
 
 cast-lengths : tie.Need-cast-lengths
-cast-lengths c = search needs
+cast-lengths c = omega arith
 
 mul-lengths : tie.Need-mul-lengths
-mul-lengths c = search needs
+mul-lengths c = omega arith
 
 array-write-lengths : tie.Need-array-write-lengths
-array-write-lengths c = search needs
+array-write-lengths c = omega arith
 
 copy-into-requires : tie.Need-copy-into-requires
 copy-into-requires c κs = search needs
@@ -33,7 +33,7 @@ slice-aggregate-is-complete : tie.Need-slice-aggregate-is-complete
 slice-aggregate-is-complete c = search needs
 
 add-is-complete : tie.Need-add-is-complete
-add-is-complete c = search needs
+add-is-complete c = omega arith
 
 is-complete-requires : tie.Need-is-complete-requires
 is-complete-requires c κs = (simp length-set (omega (arith, shaped (c .before .before .before .before .before .before .before .before .before .before .before .before) .indexes64)), omega arith)
@@ -45,7 +45,7 @@ slice-aggregate-join-2 : tie.Need-slice-aggregate-join-2
 slice-aggregate-join-2 c = search needs
 
 add-join : tie.Need-add-join
-add-join c = search needs
+add-join c = omega arith
 
 join-requires : tie.Need-join-requires
 unfolding lengthsOf withPiece
@@ -57,10 +57,10 @@ empty-row-requires : tie.Need-empty-row-requires
 empty-row-requires c κs = search needs
 
 same-length : tie.Need-same-length
-same-length c = search needs
+same-length c = omega arith
 
 same-length-2 : tie.Need-same-length-2
-same-length-2 c = search needs
+same-length-2 c = omega arith
 
 returns : tie.Need-returns
 unfolding settle withPiece complete deliveryOf written bundleOf indexesOf lengthsOf
@@ -72,10 +72,10 @@ returns c =
     (record { row = c .empty-row .ensures; delivery = rw (j .size); cell = refl; output = j .output })
 
 add-t18 : tie.Need-add-t18
-add-t18 c = search needs
+add-t18 c = omega arith
 
 same-length-3 : tie.Need-same-length-3
-same-length-3 c = search needs
+same-length-3 c = omega arith
 
 returns-2 : tie.Need-returns-2
 unfolding settle withPiece complete deliveryOf written indexesOf
