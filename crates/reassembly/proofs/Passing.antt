@@ -9,7 +9,8 @@ use borrow.Author.Tests.{ltb-true}
 use Rattle.octets.proofs.Flags.{cond-elim}
 use Rattle.reassembly.proofs.Lists.{rest, has-there, start-there, size-there}
 use Rattle.reassembly.specs.declared.Mark.{Mark}
-use Rattle.reassembly.specs.Row.{has, startOf, sizeOf, pastLower, markPast}
+use Rattle.reassembly.specs.Row.{has, startOf, sizeOf}
+use Rattle.reassembly.specs.Search.{pastLower, markPast}
 
 -- the place stays, or a piece of a lower index is passed
 past-cases : (P : ℕ → Type 0) (i k n : ℕ) (xs : List ℕ) → P k → (k < n → getD xs k 0 < i → P (k + 1)) → P (pastLower n xs k i)

@@ -5,13 +5,10 @@ use mathlib.Core.Bool.{Bool, true, false, cond, not, _&&_, _||_, Bool·beq}
 use mathlib.Core.Option.{Option, none, some}
 use mathlib.Core.List.{List, [], _∷_, _++_}
 use Prim.Native.Nat.{ℕ, zero, suc, _+_}
-use lib.ListN.{length, take, drop, set, getD, replicate}
+use lib.ListN.{length, take, drop, set, replicate}
 use lib.Dec.{ltb, leb, eqb}
 use Rattle.octets.specs.Octets.{put}
 use Rattle.reassembly.specs.declared.Row.{Row}
-use Rattle.reassembly.specs.declared.Scan.{Scan}
-use Rattle.reassembly.specs.declared.Extent.{Extent}
-use Rattle.reassembly.specs.declared.Mark.{Mark}
 use Rattle.reassembly.specs.declared.Taken.{Taken}
 use Rattle.reassembly.specs.declared.Delivery.{Delivery}
 use Rattle.reassembly.specs.declared.Delivery.the-variants.{Nothing, Bundle}
@@ -73,25 +70,6 @@ unfoldable pub sizeOf : ℕ → List ℕ → List ℕ → ℕ
 sizeOf i [] ls = 0
 sizeOf i (j ∷ js) [] = 0
 sizeOf i (j ∷ js) (l ∷ ls) = cond (eqb j i) l (sizeOf i js ls)
-
--- what a search for index i finds
-pub record Scanned (i : ℕ) (is : List ℕ) (r : Scan) : Type 0 where
-  pub held : r .held ≡ has i is
-  pub above : r .above ≡ hasAbove i is
-
--- where the piece of index i lies, looked for from a mark on
-pub record Located (i : ℕ) (m : Mark) (is ls : List ℕ) (r : Extent) : Type 0 where
-  pub start : r .start ≡ m .start + startOf i (drop (m .place) is) (drop (m .place) ls)
-  pub size : r .length ≡ sizeOf i (drop (m .place) is) (drop (m .place) ls)
-
--- past the piece at place k of n pieces, if there is one and its index is below i
-unfoldable pub pastLower : ℕ → List ℕ → ℕ → ℕ → ℕ
-pastLower n is k i = cond (ltb k n) (cond (ltb (getD is k 0) i) (k + 1) k) k
-
--- the mark there
-unfoldable pub markPast : ℕ → List ℕ → List ℕ → Mark → ℕ → Mark
-markPast n is ls m i =
-    cond (ltb (m .place) (pastLower n is (m .place) i)) (record { place = pastLower n is (m .place) i; start = m .start + getD ls (m .place) 0 }) m
 
 -- the octets of index i
 unfoldable pub piece : ℕ → List ℕ → List ℕ → List ℕ → List ℕ

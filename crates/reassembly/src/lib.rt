@@ -6,6 +6,7 @@ ghost use lib.ListN.{length, take};
 ghost use Rattle.octets.specs.Octets.{put};
 ghost use Rattle.reassembly.specs.Row as Spec;
 ghost use Rattle.reassembly.specs.Row.{bundleMax};
+ghost use Rattle.reassembly.specs.Search as Search;
 
 // The most octets of a bundle, and so of a row's cell.
 const BUNDLE_MAX: usize = 4096;
@@ -120,7 +121,7 @@ pub fn cancelled(row: Row) -> Row
 // Looks for an index among the first `held`.
 fn scan_for(indexes: &[u8], held: usize, index: u8) -> Scan
     requires { ⌜ held ≤ length (now indexes) ⌝ }
-    ensures { λ r. ⌜ Spec.Scanned index (take held (now (indexes .entry))) r ⌝ }
+    ensures { λ r. ⌜ Search.Scanned index (take held (now (indexes .entry))) r ⌝ }
 {
     let mut found = false;
     let mut above = false;
@@ -161,7 +162,7 @@ fn contradicts(known: bool, last: u8, scan: Scan, index: u8, ending: bool) -> bo
 // Where a search for an index begins, and every later search for a greater one: past the piece at a place, if its index is lower.
 fn past_lower(indexes: &[u8], held: usize, place: usize, index: u8) -> usize
     requires { ⌜ (held ≤ length (now indexes)) × (place ≤ held) ⌝ }
-    ensures { λ r. ⌜ r ≡ Spec.pastLower held (now (indexes .entry)) place index ⌝ }
+    ensures { λ r. ⌜ r ≡ Search.pastLower held (now (indexes .entry)) place index ⌝ }
 {
     if place < held {
         if indexes[place] < index {
@@ -200,7 +201,7 @@ fn all_held(indexes: &[u8], held: usize, last: u8) -> bool
 // The mark from where the piece of an index is looked for.
 fn mark_past<'a>(indexes: &'a [u8], lengths: &'a [u16], held: usize, mark: Mark, index: u8) -> Mark
     requires { ⌜ (held ≤ length (now indexes)) × (held ≤ length (now lengths)) × (held ≤ 64) × (mark .place ≤ held) × (mark .start ≤ 65535 * mark .place) ⌝ }
-    ensures { λ r. ⌜ r ≡ Spec.markPast held (now (indexes .entry)) (now (lengths .entry)) mark index ⌝ }
+    ensures { λ r. ⌜ r ≡ Search.markPast held (now (indexes .entry)) (now (lengths .entry)) mark index ⌝ }
 {
     let from = mark.place;
     let place = past_lower(indexes, held, from, index);
@@ -221,7 +222,7 @@ fn find_piece<'a>(
     index: u8,
 ) -> Extent
     requires { ⌜ (held ≤ length (now indexes)) × (held ≤ length (now lengths)) × (held ≤ 64) × (mark .place ≤ held) × (mark .start ≤ 65535 * mark .place) ⌝ }
-    ensures { λ r. ⌜ Spec.Located index mark (take held (now (indexes .entry))) (take held (now (lengths .entry))) r ⌝ }
+    ensures { λ r. ⌜ Search.Located index mark (take held (now (indexes .entry))) (take held (now (lengths .entry))) r ⌝ }
 {
     let mut start = mark.start;
     let mut k = mark.place;

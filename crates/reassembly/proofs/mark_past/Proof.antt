@@ -2,7 +2,7 @@
 use native.Mathlib.Omega.{arith}
 use borrow.Author.Tests.{lt-ltb, le-ltb}
 use Rattle.reassembly.proofs.Passing.{past-moved}
-use Rattle.reassembly.specs.Row.{markPast}
+use Rattle.reassembly.specs.Search.{markPast}
 use borrow.Author.Needs.{needs}
 use Rattle.reassembly.proofs.mark_past.Statement.{statement}
 use Rattle.reassembly.proofs.mark_past.Tie as tie

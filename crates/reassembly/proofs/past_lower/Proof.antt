@@ -1,6 +1,6 @@
 -- `reassembly::past_lower` meets its contract. Each return is one of the definition's cases. Assumes nothing.
 use borrow.Author.Tests.{lt-ltb, le-ltb}
-use Rattle.reassembly.specs.Row.{pastLower}
+use Rattle.reassembly.specs.Search.{pastLower}
 use borrow.Author.Needs.{needs}
 use Rattle.reassembly.proofs.past_lower.Statement.{statement}
 use Rattle.reassembly.proofs.past_lower.Tie as tie
