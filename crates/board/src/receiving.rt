@@ -108,7 +108,7 @@ fn exchanged(pairs: [u16; 64]) -> [u16; 64]
     next
 }
 
-// Read as the machine reads and then exchanged, a row's lengths take two vector loops; read octet by octet they take most of a call.
+// The compiler makes a copy and a vector loop of this; a single loop it reads octet by octet.
 fn lengths_of(image: &[u8], at: usize) -> [u16; 64]
     requires { ⌜ at + 128 ≤ length (now image) ⌝ }
     ensures { λ r. ⌜ r ≡ Spec.pairs 64 (drop at (now (image .entry))) ⌝ }
