@@ -199,7 +199,7 @@ fn put_row(image: &mut [u8], at: usize, row: Row)
     let code = phase_code(phase);
     let known = flag(row.known);
     let held = (row.held % 256) as u8;
-    octets::put_four(image, at, code, known, row.last, held);
+    octets::put_four(image, at, [code, known, row.last, held]);
     octets::copy_into(image, at + 4, &row.indexes[..]);
     put_lengths(image, at + 68, &row.lengths[..]);
 }
@@ -222,7 +222,7 @@ fn put_state(image: &mut [u8], state: State)
 {
     let present = flag(state.present);
     let rows = state.rows;
-    octets::put_four(image, 0, present, 0, 0, 0);
+    octets::put_four(image, 0, [present, 0, 0, 0]);
     octets::put_number(image, 4, state.greatest);
     put_rows(image, rows);
 }

@@ -62,7 +62,7 @@ fn put_state(image: &mut [u8], state: State)
     put_low(image, 0, state.size);
     put_low(image, 2, state.fill);
     octets::put_number(image, 4, state.next);
-    octets::put_four(image, 8, begun, 0, 0, 0);
+    octets::put_four(image, 8, [begun, 0, 0, 0]);
     octets::put_number(image, 12, state.number);
     put_low(image, 16, state.length);
     put_low(image, 18, state.placed);

@@ -1,13 +1,13 @@
 -- Writing at an offset: `put` of specs/Octets.antt.
 --     put-two        two stores are a put
---     put-four       four stores are a put
 --     put-paste      a finished copy is a put
 --     length-put     a put within a list keeps its length
 --     put-none       a put of nothing
 --     put-whole      a put of all octets
+--     read-back      what was put at the front is read there
 --     put-put        a put behind a put is one put of the two joined
 -- Assumes nothing.
-use mathlib.Core.Path.{_≡_, sym, ap, _∙_}
+use mathlib.Core.Path.{_≡_, refl, sym, ap, _∙_}
 use mathlib.Core.List.{List, [], _∷_, _++_, append-assoc, append-nil}
 use Prim.Native.Nat.{ℕ, _+_, _≤_, _<_}
 use native.Mathlib.Numerals.{towards-suc, add-one}
@@ -16,11 +16,6 @@ use native.Mathlib.Omega.{arith}
 use lib.ListN.{length, take, drop, set, getD, length-append, length-take, length-drop, take-append-drop}
 use lib.Seq.{sets-eq, paste, paste-suc, take-length, drop-length, length-take-le, take-at, drop-at, drop-drop}
 use Rattle.octets.specs.Octets.{put}
-
-pub put-four : (l : List ℕ) (at a b c d : ℕ) → at + 4 ≤ length l
-    → set (set (set (set l at a) (at + 1) b) (at + 2) c) (at + 3) d ≡ put l at (a ∷ b ∷ c ∷ d ∷ [])
-unfolding put
-put-four l at a b c d h = simp towards-suc (simp towards-suc at (sets-eq (a ∷ b ∷ c ∷ d ∷ []) l at h))
 
 pub put-two : (l : List ℕ) (at a b : ℕ) → at + 2 ≤ length l → set (set l at a) (at + 1) b ≡ put l at (a ∷ b ∷ [])
 unfolding put
@@ -41,6 +36,10 @@ put-none d at = rw (add-zero at, append-nil (take at d)) (take-append-drop at d)
 pub put-whole : (d s : List ℕ) → length s ≡ length d → put d 0 s ≡ s
 unfolding put
 put-whole d s e = rw (e, zero-add (length d), drop-length d, append-nil s)
+
+pub read-back : (d₀ d s : List ℕ) → d ≡ put d₀ 0 s → take (length s) d ≡ s
+unfolding put
+read-back d₀ d s e = rw e (take-at s (drop (0 + length s) d₀) (length s) refl)
 
 -- a turn of a loop that copies s to the place `at`
 pub paste-turn : (d₀ d : List ℕ) (at : ℕ) (s : List ℕ) (j : ℕ) → d ≡ paste d₀ at s j → at + j < length d₀ → j < length s

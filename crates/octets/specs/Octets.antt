@@ -22,3 +22,7 @@ be16 n = n / 256 % 256 ∷ n % 256 ∷ []
 -- the octets vs from `at` on; all other octets of d stay
 unfoldable pub put : List ℕ → ℕ → List ℕ → List ℕ
 put d at vs = take at d ++ vs ++ drop (at + length vs) d
+
+-- the greatest length of a copy: a bundle's
+abbrev pub copyMax : ℕ
+copyMax = 4096

@@ -1,9 +1,11 @@
 // Runs of octets: reading and writing a number, copying a run to an offset, and zeros up to the end.
 ghost use mathlib.Core.Path.{_≡_};
-ghost use mathlib.Core.List.{[], _∷_};
 ghost use Prim.Native.Nat.{_+_, _-_, _≤_, _<_};
 ghost use lib.ListN.{length, drop, replicate};
-ghost use Rattle.octets.specs.Octets.{number, number16, be32, be16, put};
+ghost use Rattle.octets.specs.Octets.{number, number16, be32, be16, put, copyMax};
+
+// The greatest length of a copy.
+const COPY_MAX: usize = 4096;
 
 pub fn octet(x: u8) -> u32
     ensures { λ r. ⌜ (r ≡ x) × (r < 256) ⌝ }
@@ -39,15 +41,42 @@ pub fn number_at(s: &[u8], at: usize) -> u32
     octet(s[at]) * 16777216 + octet(s[at + 1]) * 65536 + octet(s[at + 2]) * 256 + octet(s[at + 3])
 }
 
-// Four octets, from `at` on.
-pub fn put_four(to: &mut [u8], at: usize, a: u8, b: u8, c: u8, d: u8)
-    requires { ⌜ at + 4 ≤ length (now to) ⌝ }
-    ensures { λ _. ⌜ now (to .exit) ≡ put (now (to .entry)) at (a ∷ b ∷ c ∷ d ∷ []) ⌝ }
+// All of src, from `at` on, octet by octet.
+fn copy_each(to: &mut [u8], at: usize, src: &[u8])
+    requires { ⌜ at + length (now src) ≤ length (now to) ⌝ }
+    ensures { λ _. ⌜ now (to .exit) ≡ put (now (to .entry)) at (now (src .entry)) ⌝ }
 {
-    to[at] = a;
-    to[at + 1] = b;
-    to[at + 2] = c;
-    to[at + 3] = d;
+    let mut j = 0;
+    while j < src.len() {
+        to[at + j] = src[j];
+        j += 1;
+    }
+}
+
+// All of src, from `at` on. Through a buffer, which overlaps neither: the compiler makes one call of memmove of it.
+pub fn copy_into(to: &mut [u8], at: usize, src: &[u8])
+    requires { ⌜ (at + length (now src) ≤ length (now to)) × (length (now src) ≤ copyMax) ⌝ }
+    ensures { λ _. ⌜ now (to .exit) ≡ put (now (to .entry)) at (now (src .entry)) ⌝ }
+{
+    let n = src.len();
+    let mut buffer = [0u8; COPY_MAX];
+    copy_each(&mut buffer, 0, src);
+    copy_each(to, at, &buffer[..n]);
+}
+
+// Four octets, from `at` on. An array goes by value, and the compiler makes one store of it.
+pub fn put_four(to: &mut [u8], at: usize, four: [u8; 4])
+    requires { ⌜ at + 4 ≤ length (now to) ⌝ }
+    ensures { λ _. ⌜ now (to .exit) ≡ put (now (to .entry)) at four ⌝ }
+{
+    copy_each(to, at, &four[..]);
+}
+
+fn put_two(to: &mut [u8], at: usize, two: [u8; 2])
+    requires { ⌜ at + 2 ≤ length (now to) ⌝ }
+    ensures { λ _. ⌜ now (to .exit) ≡ put (now (to .entry)) at two ⌝ }
+{
+    copy_each(to, at, &two[..]);
 }
 
 // A number of 32 bits, from `at` on.
@@ -59,7 +88,7 @@ pub fn put_number(to: &mut [u8], at: usize, n: u32)
     let b = (n / 65536 % 256) as u8;
     let c = (n / 256 % 256) as u8;
     let d = (n % 256) as u8;
-    put_four(to, at, a, b, c, d);
+    put_four(to, at, [a, b, c, d]);
 }
 
 // A number of 16 bits, from `at` on.
@@ -67,20 +96,9 @@ pub fn put_number16(to: &mut [u8], at: usize, n: u16)
     requires { ⌜ at + 2 ≤ length (now to) ⌝ }
     ensures { λ _. ⌜ now (to .exit) ≡ put (now (to .entry)) at (be16 n) ⌝ }
 {
-    to[at] = (n / 256 % 256) as u8;
-    to[at + 1] = (n % 256) as u8;
-}
-
-// All of src, from `at` on.
-pub fn copy_into(to: &mut [u8], at: usize, src: &[u8])
-    requires { ⌜ at + length (now src) ≤ length (now to) ⌝ }
-    ensures { λ _. ⌜ now (to .exit) ≡ put (now (to .entry)) at (now (src .entry)) ⌝ }
-{
-    let mut j = 0;
-    while j < src.len() {
-        to[at + j] = src[j];
-        j += 1;
-    }
+    let a = (n / 256 % 256) as u8;
+    let b = (n % 256) as u8;
+    put_two(to, at, [a, b]);
 }
 
 // Zeros from `at` to the end.

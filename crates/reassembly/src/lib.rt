@@ -328,7 +328,7 @@ fn join<'a>(
     out: &mut [u8],
 ) -> usize
     requires { ⌜ (held ≤ length (now indexes)) × (held ≤ length (now lengths)) × (held ≤ 64) × (last < 64) ⌝ }
-    requires { ⌜ (Spec.sumOf (take held (now lengths)) ≤ length (now cell)) × (Spec.sumOf (take held (now lengths)) ≤ length (now out)) ⌝ }
+    requires { ⌜ (Spec.sumOf (take held (now lengths)) ≤ length (now cell)) × (Spec.sumOf (take held (now lengths)) ≤ length (now out)) × (Spec.sumOf (take held (now lengths)) ≤ bundleMax) ⌝ }
     ensures { λ r. ⌜ Spec.Joined (Spec.joined false (last + 1) (take held (now (indexes .entry))) (take held (now (lengths .entry))) (now (cell .entry))) (now (out .entry)) r (now (out .exit)) ⌝ }
 {
     let mut mark = Mark { place: 0, start: 0 };

@@ -3,7 +3,7 @@ use crate::Kind;
 ghost use mathlib.Core.Path.{_≡_};
 ghost use Prim.Native.Nat.{_+_, _-_, _≤_, _<_};
 ghost use lib.ListN.{length};
-ghost use Rattle.octets.specs.Octets.{put};
+ghost use Rattle.octets.specs.Octets.{put, copyMax};
 ghost use Rattle.wire.specs.Message.{bundle, cancel};
 ghost use Rattle.wire.specs.Written.{typeOf, pieceKind, header, written, piece, padding};
 
@@ -36,11 +36,11 @@ fn put_header(frame: &mut [u8], at: usize, kind: Kind, n: usize)
     let b = (n / 65536) as u8;
     let c = (n / 256 % 256) as u8;
     let d = (n % 256) as u8;
-    octets::put_four(frame, at, a, b, c, d);
+    octets::put_four(frame, at, [a, b, c, d]);
 }
 
 pub fn put_bundle(frame: &mut [u8], at: usize, content: &[u8])
-    requires { ⌜ (at + 4 + length (now content) ≤ length (now frame)) × (length (now content) < 1048576) ⌝ }
+    requires { ⌜ (at + 4 + length (now content) ≤ length (now frame)) × (length (now content) ≤ copyMax) ⌝ }
     ensures { λ _. ⌜ now (frame .exit) ≡ put (now (frame .entry)) at (written (bundle (now (content .entry)))) ⌝ }
 {
     put_header(frame, at, Kind::Bundle, content.len());
@@ -49,7 +49,7 @@ pub fn put_bundle(frame: &mut [u8], at: usize, content: &[u8])
 
 // A transfer end, or a transfer segment.
 pub fn put_piece(frame: &mut [u8], at: usize, ending: bool, number: u32, index: u32, part: &[u8])
-    requires { ⌜ (at + 12 + length (now part) ≤ length (now frame)) × (8 + length (now part) < 1048576) ⌝ }
+    requires { ⌜ (at + 12 + length (now part) ≤ length (now frame)) × (length (now part) ≤ copyMax) ⌝ }
     ensures { λ _. ⌜ now (frame .exit) ≡ put (now (frame .entry)) at (written (piece ending number index (now (part .entry)))) ⌝ }
 {
     put_header(frame, at, piece_kind(ending), 8 + part.len());

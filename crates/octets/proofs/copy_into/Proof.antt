@@ -1,65 +1,43 @@
--- `octets::copy_into` meets its contract. The first j octets are pasted. Assumes nothing.
+-- `octets::copy_into` meets its contract: what the buffer was given is read back.
+use mathlib.Core.Path.{sym, ap}
+use native.Mathlib.Omega.{arith}
+use lib.ListN.{length}
+use Rattle.octets.proofs.Put.{read-back}
 use borrow.Author.Needs.{needs}
 use Rattle.octets.proofs.copy_into.Statement.{statement}
 use Rattle.octets.proofs.copy_into.Tie as tie
-use mathlib.Core.Path.{_≡_, refl}
-use Prim.Native.Nat.{_-_, _≤_}
-use native.Mathlib.Omega.{arith}
-use lib.ListN.{length, length-set}
-use lib.Seq.{paste, paste-zero}
-use Rattle.octets.proofs.Put.{paste-turn, paste-done}
 
-abbrev Inv-loop : tie.InvT-loop
-Inv-loop to₀ at src j₀ to j = (j ≤ length src) × (to ≡ paste to₀ at src j) × (length to ≡ length to₀)
+slice-aggregate-copy-each : tie.Need-slice-aggregate-copy-each
+slice-aggregate-copy-each c = search needs
 
-abbrev μ-loop : tie.MeasureT-loop
-μ-loop to₀ at src j₀ to j = length src - j
+copy-each-requires : tie.Need-copy-each-requires
+copy-each-requires c κs = search needs
 
-loop-holds : tie.Need-loop-holds Inv-loop μ-loop
-loop-holds c = (search needs, paste-zero _ (c .args .at) (c .args .src .now), refl)
+array-share-prefix-buffer : tie.Need-array-share-prefix-buffer
+array-share-prefix-buffer c = search needs
 
-shared-slice-read-to : tie.Need-shared-slice-read-to Inv-loop μ-loop
-shared-slice-read-to c = omega arith
+slice-aggregate-copy-each-2 : tie.Need-slice-aggregate-copy-each-2
+slice-aggregate-copy-each-2 c = ap length (sym (read-back _ _ _ (c .before .before .before .copy-each .ensures)))
 
-add-to : tie.Need-add-to Inv-loop μ-loop
-add-to c = omega arith
+copy-each-requires-2 : tie.Need-copy-each-requires-2
+copy-each-requires-2 c κs =
+    rw (read-back _ _ _ (c .before .before .before .copy-each .ensures)) (omega arith)
 
-slice-write-to : tie.Need-slice-write-to Inv-loop μ-loop
-slice-write-to c = omega arith
+same-length : tie.Need-same-length
+same-length c = search needs
 
-add-j : tie.Need-add-j Inv-loop μ-loop
-add-j c = omega arith
-
-loop-less : tie.Need-loop-less Inv-loop μ-loop
-loop-less c = omega arith
-
-loop-again : tie.Need-loop-again Inv-loop μ-loop
-loop-again c =
-    let l = c .before .before .loop in
-    let a = c .before .before .before .args in
-    (omega arith, paste-turn _ _ (a .at) (a .src .now) (l .j) (l .inv .1) (omega arith) (omega arith), simp length-set (l .inv .2))
-
-same-length : tie.Need-same-length Inv-loop μ-loop
-same-length c = omega arith
-
-returns : tie.Need-returns Inv-loop μ-loop
+returns : tie.Need-returns
 returns c =
-    let l = c .before .loop in
-    let a = c .before .before .args in
-    paste-done _ _ (a .at) (a .src .now) (l .j) (l .inv .1) (omega arith)
+    rw (← read-back _ _ _ (c .before .before .before .before .before .before .copy-each .ensures)) (c .before .before .copy-each2 .ensures)
 
 pub copy-into-spec : {M : Type 1} → statement M
 copy-into-spec =
     tie.close
     (tie.spec
-    Inv-loop
-    μ-loop
-    loop-holds
-    shared-slice-read-to
-    add-to
-    slice-write-to
-    add-j
-    loop-less
-    loop-again
+    slice-aggregate-copy-each
+    copy-each-requires
+    array-share-prefix-buffer
+    slice-aggregate-copy-each-2
+    copy-each-requires-2
     same-length
     returns)

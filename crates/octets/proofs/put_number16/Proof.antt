@@ -1,35 +1,24 @@
--- `octets::put_number16` meets its contract: its two stores are one `put`.
-use native.Mathlib.Omega.{arith}
-use lib.ListN.{length-set}
+-- `octets::put_number16` meets its contract.
 use Rattle.octets.specs.Octets.{be16}
-use Rattle.octets.proofs.Put.{put-two}
 use borrow.Author.Needs.{needs}
 use Rattle.octets.proofs.put_number16.Statement.{statement}
 use Rattle.octets.proofs.put_number16.Tie as tie
 
-cast-to : tie.Need-cast-to
-cast-to c = search needs
+cast-a : tie.Need-cast-a
+cast-a c = search needs
 
-slice-write-to : tie.Need-slice-write-to
-slice-write-to c = search needs
+cast-b : tie.Need-cast-b
+cast-b c = search needs
 
-cast-to-2 : tie.Need-cast-to-2
-cast-to-2 c = search needs
-
-add-to : tie.Need-add-to
-add-to c = search needs
-
-slice-write-to-2 : tie.Need-slice-write-to-2
-slice-write-to-2 c = simp length-set (omega arith)
+put-two-requires : tie.Need-put-two-requires
+put-two-requires c κs = search needs
 
 same-length : tie.Need-same-length
 same-length c = search needs
 
 returns : tie.Need-returns
 unfolding be16
-returns c = put-two _ _ _ _ (c .pre)
+returns c = c .before .before .put-two .ensures
 
 pub put-number16-spec : {M : Type 1} → statement M
-put-number16-spec =
-    tie.close
-    (tie.spec cast-to slice-write-to cast-to-2 add-to slice-write-to-2 same-length returns)
+put-number16-spec = tie.close (tie.spec cast-a cast-b put-two-requires same-length returns)

@@ -51,7 +51,7 @@ join-requires : tie.Need-join-requires
 unfolding lengthsOf withPiece
 join-requires c κs =
     let z = shaped (c .before .before .before .before .before .before .before .before .before .before .before .before .before .before .before .before .before .before) in
-    ((simp length-set (omega (arith, z .indexes64)), simp length-set (omega (arith, z .lengths64)), omega arith, omega arith), (omega arith, omega arith))
+    ((simp length-set (omega (arith, z .indexes64)), simp length-set (omega (arith, z .lengths64)), omega arith, omega arith), (omega arith, omega arith, omega arith))
 
 empty-row-requires : tie.Need-empty-row-requires
 empty-row-requires c κs = search needs
