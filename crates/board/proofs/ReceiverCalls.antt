@@ -1,24 +1,15 @@
 -- The receiving call on images: what a refused image and a taken one give.
-use mathlib.Core.Bool.{true, false, _&&_}
+use mathlib.Core.Bool.{true, false}
 use mathlib.Core.List.{List}
 use mathlib.Core.Path.{_≡_}
 use Prim.Native.Nat.{ℕ}
-use lib.Dec.{eqb, leb}
-use lib.ListN.{length, getD, drop}
-use borrow.Author.Tests.{eqb-true}
-use Rattle.octets.proofs.Flags.{both}
 use Rattle.window.specs.Window.{windowSize}
 use Rattle.receiver.specs.declared.Received.{Received}
-use Rattle.receiver.specs.declared.State.{State}
-use Rattle.receiver.specs.Message.{draft02}
+use Rattle.rows.specs.declared.State.{State}
+use Rattle.rows.specs.Message.{draft02}
 use Rattle.receiver.specs.Receive.{reply, receive}
-use Rattle.board.specs.Receiver.{imageSize, isImage, areRows, stateOf, Exported, status, report, kept, exported, received}
-
-pub image-full : (xs : List ℕ) → isImage xs ≡ true → length xs ≡ imageSize
-unfolding isImage
-image-full xs e =
-    let head : _ = leb (getD xs 0 0) 1 && eqb (getD xs 1 0) 0 && eqb (getD xs 2 0) 0 && eqb (getD xs 3 0) 0 in
-    eqb-true (length xs) imageSize (both (eqb (length xs) imageSize) head (both (eqb (length xs) imageSize && head) (areRows windowSize (drop 8 xs)) e .0) .0)
+use Rattle.images.specs.Receiver.{isImage, stateOf}
+use Rattle.board.specs.Receiver.{Exported, status, report, kept, exported, received}
 
 pub image-refused : (image pool frame : List ℕ) (place : ℕ) (output result : List ℕ) → isImage image ≡ false
     → _≡_ {A = Exported} (record { status = 1; image = image; pool = pool; output = output; result = result }) (received image pool frame place output result)

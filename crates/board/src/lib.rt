@@ -1,4 +1,4 @@
-// The receiver and the sender for hosts in other languages: states as images of octets, answers through an array, the refusal's number
+// The receiver and the sender for hosts in other languages: calls on images of states, answers through an array, the refusal's number
 // returned. include/btpu.h documents them.
 mod receiving;
 mod sending;

@@ -1,231 +1,19 @@
-// The receiver's calls, and its state as an image.
-use reassembly::Phase;
-use reassembly::Row;
+// The receiver's calls, on an image of its state.
+use images::receiving::IMAGE_SIZE;
 use receiver::Answer;
 use receiver::Origin;
 use receiver::Refusal;
 use receiver::State;
 ghost use mathlib.Core.Path.{_≡_};
-ghost use mathlib.Core.List.{List, map};
-ghost use Prim.Native.Nat.{ℕ, _+_, _*_, _≤_};
-ghost use lib.ListN.{length, take, drop};
-ghost use Rattle.octets.specs.Octets.{put};
-ghost use Rattle.window.specs.Window.{windowSize};
+ghost use mathlib.Core.List.{List};
+ghost use Prim.Native.Nat.{ℕ};
+ghost use lib.ListN.{length};
 ghost use Rattle.receiver.specs.Receive as Call;
+ghost use Rattle.images.specs.Receiver.{imageSize};
 ghost use Rattle.board.specs.Receiver as Spec;
-ghost use Rattle.board.specs.Receiver.{imageSize, rowSize};
-
-const IMAGE_SIZE: usize = 3144;
-
-// The octets of a row, and where the first row starts.
-const ROW_SIZE: usize = 196;
-
-const ROWS: usize = 8;
 
 // A number for "none": no transfer has it.
 const NO_TRANSFER: u64 = 4294967296;
-
-fn phase_of(code: u8) -> Phase
-    ensures { λ r. ⌜ r ≡ Spec.phaseOf code ⌝ }
-{
-    if code == 1 {
-        return Phase::Open;
-    }
-    if code == 2 {
-        return Phase::Done;
-    }
-    if code == 3 {
-        return Phase::Cancelled;
-    }
-    if code == 4 {
-        return Phase::Abandoned;
-    }
-    Phase::Free
-}
-
-fn phase_code(phase: Phase) -> u8
-    ensures { λ r. ⌜ r ≡ Spec.phaseCode phase ⌝ }
-{
-    match phase {
-        Phase::Free => 0,
-        Phase::Open => 1,
-        Phase::Done => 2,
-        Phase::Cancelled => 3,
-        Phase::Abandoned => 4,
-    }
-}
-
-pub fn flag(b: bool) -> u8
-    ensures { λ r. ⌜ r ≡ Spec.flag b ⌝ }
-{
-    if b {
-        return 1;
-    }
-    0
-}
-
-fn indexes_of(image: &[u8], at: usize) -> [u8; 64]
-    requires { ⌜ at + 64 ≤ length (now image) ⌝ }
-    ensures { λ r. ⌜ r ≡ take 64 (drop at (now (image .entry))) ⌝ }
-{
-    let end = at + 64;
-    let mut indexes = [0u8; 64];
-    octets::copy_into(&mut indexes, 0, &image[at..end]);
-    indexes
-}
-
-// Numbers of two octets, low octet first: the order in which this machine reads two octets at once.
-fn pairs_of(image: &[u8], at: usize) -> [u16; 64]
-    requires { ⌜ at + 128 ≤ length (now image) ⌝ }
-    ensures { λ r. ⌜ map Spec.exchange r ≡ Spec.pairs 64 (drop at (now (image .entry))) ⌝ }
-{
-    let mut pairs = [0u16; 64];
-    let mut j = 0;
-    while j < 64 {
-        let from = at + j * 2;
-        pairs[j] = octets::octet16(image[from + 1]) * 256 + octets::octet16(image[from]);
-        j += 1;
-    }
-    pairs
-}
-
-// The two octets of a number exchanged.
-fn exchange(x: u16) -> u16
-    ensures { λ r. ⌜ r ≡ Spec.exchange x ⌝ }
-{
-    x % 256 * 256 + x / 256
-}
-
-fn exchanged(pairs: [u16; 64]) -> [u16; 64]
-    ensures { λ r. ⌜ r ≡ map Spec.exchange pairs ⌝ }
-{
-    let mut next = pairs;
-    let mut j = 0;
-    while j < 64 {
-        next[j] = exchange(next[j]);
-        j += 1;
-    }
-    next
-}
-
-// The compiler makes a copy and a vector loop of this; a single loop it reads octet by octet.
-fn lengths_of(image: &[u8], at: usize) -> [u16; 64]
-    requires { ⌜ at + 128 ≤ length (now image) ⌝ }
-    ensures { λ r. ⌜ r ≡ Spec.pairs 64 (drop at (now (image .entry))) ⌝ }
-{
-    exchanged(pairs_of(image, at))
-}
-
-// The row whose octets start at `at`.
-fn row_of(image: &[u8], at: usize) -> Row
-    requires { ⌜ at + rowSize ≤ length (now image) ⌝ }
-    ensures { λ r. ⌜ r ≡ Spec.rowOf (drop at (now (image .entry))) ⌝ }
-{
-    Row {
-        phase: phase_of(image[at]),
-        known: image[at + 1] == 1,
-        last: image[at + 2],
-        held: octets::octet_size(image[at + 3]),
-        indexes: indexes_of(image, at + 4),
-        lengths: lengths_of(image, at + 68),
-    }
-}
-
-fn rows_of(image: &[u8]) -> [Row; 16]
-    requires { ⌜ length (now image) ≡ imageSize ⌝ }
-    ensures { λ r. ⌜ r ≡ Spec.rowsOf windowSize (drop 8 (now (image .entry))) ⌝ }
-{
-    let free = reassembly::empty_row(Phase::Free);
-    let mut rows = [free; 16];
-    let mut k = 0;
-    while k < 16 {
-        rows[k] = row_of(image, ROWS + k * ROW_SIZE);
-        k += 1;
-    }
-    rows
-}
-
-fn are_rows(image: &[u8]) -> bool
-    requires { ⌜ length (now image) ≡ imageSize ⌝ }
-    ensures { λ r. ⌜ r ≡ Spec.areRows windowSize (drop 8 (now (image .entry))) ⌝ }
-{
-    let mut good = true;
-    let mut k = 0;
-    while k < 16 {
-        let at = ROWS + k * ROW_SIZE;
-        good = good & ((image[at] <= 4) & (image[at + 1] <= 1));
-        k += 1;
-    }
-    good
-}
-
-fn is_image(image: &[u8]) -> bool
-    ensures { λ r. ⌜ r ≡ Spec.isImage (now (image .entry)) ⌝ }
-{
-    if image.len() == IMAGE_SIZE {
-        let head = (image[0] <= 1) & (image[1] == 0) & (image[2] == 0) & (image[3] == 0);
-        return head & are_rows(image);
-    }
-    false
-}
-
-fn state_of(image: &[u8]) -> State
-    requires { ⌜ length (now image) ≡ imageSize ⌝ }
-    ensures { λ r. ⌜ r ≡ Spec.stateOf (now (image .entry)) ⌝ }
-{
-    State {
-        present: image[0] == 1,
-        greatest: octets::number_at(image, 4),
-        rows: rows_of(image),
-    }
-}
-
-fn put_lengths(image: &mut [u8], at: usize, lengths: &[u16])
-    requires { ⌜ at + 2 * length (now lengths) ≤ length (now image) ⌝ }
-    ensures { λ _. ⌜ now (image .exit) ≡ put (now (image .entry)) at (Spec.spread (now (lengths .entry))) ⌝ }
-{
-    let mut j = 0;
-    while j < lengths.len() {
-        octets::put_number16(image, at + j * 2, lengths[j]);
-        j += 1;
-    }
-}
-
-fn put_row(image: &mut [u8], at: usize, row: Row)
-    requires { ⌜ at + rowSize ≤ length (now image) ⌝ }
-    ensures { λ _. ⌜ (now (image .exit) ≡ put (now (image .entry)) at (Spec.rowImage row)) × (length (Spec.rowImage row) ≡ rowSize) ⌝ }
-{
-    let phase = row.phase;
-    let code = phase_code(phase);
-    let known = flag(row.known);
-    let held = (row.held % 256) as u8;
-    octets::put_four(image, at, [code, known, row.last, held]);
-    octets::copy_into(image, at + 4, &row.indexes[..]);
-    put_lengths(image, at + 68, &row.lengths[..]);
-}
-
-fn put_rows(image: &mut [u8], rows: [Row; 16])
-    requires { ⌜ length (now image) ≡ imageSize ⌝ }
-    ensures { λ _. ⌜ (now (image .exit) ≡ put (now (image .entry)) 8 (Spec.rowsImage rows)) × (length (Spec.rowsImage rows) ≡ windowSize * rowSize) ⌝ }
-{
-    let mut k = 0;
-    while k < 16 {
-        let row = rows[k];
-        put_row(image, ROWS + k * ROW_SIZE, row);
-        k += 1;
-    }
-}
-
-fn put_state(image: &mut [u8], state: State)
-    requires { ⌜ length (now image) ≡ imageSize ⌝ }
-    ensures { λ _. ⌜ now (image .exit) ≡ Spec.imageOf state ⌝ }
-{
-    let present = flag(state.present);
-    let rows = state.rows;
-    octets::put_four(image, 0, [present, 0, 0, 0]);
-    octets::put_number(image, 4, state.greatest);
-    put_rows(image, rows);
-}
 
 fn origin_number(origin: Origin) -> u64
     ensures { λ r. ⌜ r ≡ Spec.originNumber origin ⌝ }
@@ -294,8 +82,8 @@ fn keep(image: &mut [u8], answer: Answer, state: State)
             length: _,
             next: _,
             origin: _,
-        } => put_state(image, state),
-        Answer::Finished => put_state(image, state),
+        } => images::receiving::put_state(image, state),
+        Answer::Finished => images::receiving::put_state(image, state),
         Answer::Refused(_) => {}
     }
 }
@@ -306,7 +94,7 @@ pub extern "C" fn btpu_receiver_start(state: &mut [u8]) -> u32
     ensures { λ r. ⌜ _≡_ {A = ℕ × List ℕ} (r, now (state .exit)) (Spec.started (now (state .entry))) ⌝ }
 {
     if state.len() == IMAGE_SIZE {
-        put_state(state, receiver::start());
+        images::receiving::put_state(state, receiver::start());
         return 0;
     }
     1
@@ -324,8 +112,8 @@ pub extern "C" fn btpu_receive(
 ) -> u32
     ensures { λ r. ⌜ record { status = r; image = now (state .exit); pool = now (pool .exit); output = now (output .exit); result = now (result .exit) } ≡ Spec.received (now (state .entry)) (now (pool .entry)) (now (frame .entry)) place (now (output .entry)) (now (result .entry)) ⌝ }
 {
-    if is_image(&state[..]) {
-        let s = state_of(&state[..]);
+    if images::receiving::is_image(&state[..]) {
+        let s = images::receiving::state_of(&state[..]);
         let r = receiver::receive(s, pool, frame, place as usize, output);
         let answer = r.answer;
         let next = r.state;

@@ -1,73 +1,16 @@
-// The sender's calls, and its state as an image.
-use crate::receiving::flag;
+// The sender's calls, on an image of its state.
+use images::sending::IMAGE_SIZE;
 use sender::Answer;
 use sender::Sent;
 use sender::Started;
 use sender::State;
 ghost use mathlib.Core.Path.{_≡_};
 ghost use mathlib.Core.List.{List};
-ghost use Prim.Native.Nat.{ℕ, _+_, _≤_};
+ghost use Prim.Native.Nat.{ℕ};
 ghost use lib.ListN.{length};
-ghost use Rattle.octets.specs.Octets.{put, be16};
-ghost use Rattle.sender.specs.Answers.{reply};
+ghost use Rattle.framing.specs.Answers.{reply};
+ghost use Rattle.images.specs.Sender.{imageSize};
 ghost use Rattle.board.specs.Sender as Spec;
-ghost use Rattle.board.specs.Sender.{imageSize};
-
-const IMAGE_SIZE: usize = 24;
-
-fn is_image(image: &[u8]) -> bool
-    ensures { λ r. ⌜ r ≡ Spec.isImage (now (image .entry)) ⌝ }
-{
-    if image.len() == IMAGE_SIZE {
-        return (image[8] <= 1) & (image[9] == 0) & (image[10] == 0) & (image[11] == 0);
-    }
-    false
-}
-
-fn wide(n: u16) -> usize
-    ensures { λ r. ⌜ r ≡ n ⌝ }
-{
-    n as usize
-}
-
-fn state_of(image: &[u8]) -> State
-    requires { ⌜ length (now image) ≡ imageSize ⌝ }
-    ensures { λ r. ⌜ r ≡ Spec.stateOf (now (image .entry)) ⌝ }
-{
-    State {
-        size: wide(octets::number16_at(image, 0)),
-        fill: wide(octets::number16_at(image, 2)),
-        next: octets::number_at(image, 4),
-        begun: image[8] == 1,
-        number: octets::number_at(image, 12),
-        length: wide(octets::number16_at(image, 16)),
-        placed: wide(octets::number16_at(image, 18)),
-        index: octets::number_at(image, 20),
-    }
-}
-
-// The last 16 bits of a number, from `at` on.
-fn put_low(to: &mut [u8], at: usize, n: usize)
-    requires { ⌜ at + 2 ≤ length (now to) ⌝ }
-    ensures { λ _. ⌜ now (to .exit) ≡ put (now (to .entry)) at (be16 n) ⌝ }
-{
-    octets::put_number16(to, at, (n % 65536) as u16);
-}
-
-fn put_state(image: &mut [u8], state: State)
-    requires { ⌜ length (now image) ≡ imageSize ⌝ }
-    ensures { λ _. ⌜ now (image .exit) ≡ Spec.imageOf state ⌝ }
-{
-    let begun = flag(state.begun);
-    put_low(image, 0, state.size);
-    put_low(image, 2, state.fill);
-    octets::put_number(image, 4, state.next);
-    octets::put_four(image, 8, [begun, 0, 0, 0]);
-    octets::put_number(image, 12, state.number);
-    put_low(image, 16, state.length);
-    put_low(image, 18, state.placed);
-    octets::put_number(image, 20, state.index);
-}
 
 fn status(answer: Answer) -> u32
     ensures { λ r. ⌜ r ≡ Spec.status (reply answer) ⌝ }
@@ -107,10 +50,10 @@ fn keep(image: &mut [u8], answer: Answer, state: State)
     ensures { λ _. ⌜ now (image .exit) ≡ Spec.kept (reply answer) (now (image .entry)) state ⌝ }
 {
     match answer {
-        Answer::Placed => put_state(image, state),
-        Answer::PlacedReady => put_state(image, state),
-        Answer::Ready => put_state(image, state),
-        Answer::Nothing => put_state(image, state),
+        Answer::Placed => images::sending::put_state(image, state),
+        Answer::PlacedReady => images::sending::put_state(image, state),
+        Answer::Ready => images::sending::put_state(image, state),
+        Answer::Nothing => images::sending::put_state(image, state),
         Answer::Refused(_) => {}
     }
 }
@@ -136,7 +79,7 @@ pub extern "C" fn btpu_sender_start(state: &mut [u8], size: u64, first: u32) -> 
         let s = sender::start(size as usize, first);
         match s {
             Started::Made(made) => {
-                put_state(state, made);
+                images::sending::put_state(state, made);
                 return 0;
             }
             Started::Refused(refusal) => {
@@ -157,8 +100,8 @@ pub extern "C" fn btpu_place(
 ) -> u32
     ensures { λ r. ⌜ record { status = r; image = now (state .exit); frame = now (frame .exit); result = now (result .exit) } ≡ Spec.placedBy (now (state .entry)) (now (bundle .entry)) (now (frame .entry)) (now (result .entry)) ⌝ }
 {
-    if is_image(&state[..]) {
-        let s = state_of(&state[..]);
+    if images::sending::is_image(&state[..]) {
+        let s = images::sending::state_of(&state[..]);
         let sent = sender::place(s, bundle, frame);
         return finish(state, sent, result);
     }
@@ -170,8 +113,8 @@ pub extern "C" fn btpu_place(
 pub extern "C" fn btpu_cancel(state: &mut [u8], frame: &mut [u8], result: &mut [u64; 4]) -> u32
     ensures { λ r. ⌜ record { status = r; image = now (state .exit); frame = now (frame .exit); result = now (result .exit) } ≡ Spec.cancelledBy (now (state .entry)) (now (frame .entry)) (now (result .entry)) ⌝ }
 {
-    if is_image(&state[..]) {
-        let s = state_of(&state[..]);
+    if images::sending::is_image(&state[..]) {
+        let s = images::sending::state_of(&state[..]);
         let sent = sender::cancel(s, frame);
         return finish(state, sent, result);
     }
@@ -183,8 +126,8 @@ pub extern "C" fn btpu_cancel(state: &mut [u8], frame: &mut [u8], result: &mut [
 pub extern "C" fn btpu_flush(state: &mut [u8], frame: &mut [u8], result: &mut [u64; 4]) -> u32
     ensures { λ r. ⌜ record { status = r; image = now (state .exit); frame = now (frame .exit); result = now (result .exit) } ≡ Spec.flushedBy (now (state .entry)) (now (frame .entry)) (now (result .entry)) ⌝ }
 {
-    if is_image(&state[..]) {
-        let s = state_of(&state[..]);
+    if images::sending::is_image(&state[..]) {
+        let s = images::sending::state_of(&state[..]);
         let sent = sender::flush(s, frame);
         return finish(state, sent, result);
     }

@@ -10,7 +10,7 @@ use lib.Dec.{leb, eqb}
 use borrow.Author.Tests.{eqb-true, eq-eqb, le-leb, lt-leb, leb-true, leb-false}
 use Rattle.octets.proofs.Flags.{bool, or-left, or-right}
 use Rattle.wire.specs.Message.{Message, skipped, bundle, segment, last, cancel}
-use Rattle.reassembly.specs.Row.{has, hasAll}
+use Rattle.pieces.specs.Pieces.{has, hasAll}
 use Rattle.claims.specs.Record.{Transfers}
 use Rattle.claims.specs.Demand3.{places, NoneBehind}
 use Rattle.claims.proofs.Held.{has-snoc, has-either, all-has, has-all}

@@ -17,15 +17,17 @@ use Rattle.window.specs.declared.Standing.{Standing}
 use Rattle.window.specs.declared.Standing.the-variants.{Inside, New, Outside}
 use Rattle.window.specs.Window.{Window, standingOf, rowOf, enters}
 use Rattle.window.proofs.Entering.{row-below, all-enter}
-use Rattle.reassembly.specs.declared.Row.{Row}
-use Rattle.reassembly.specs.declared.Phase.the-variants.{Free}
-use Rattle.reassembly.specs.Row as Rules
-use Rattle.reassembly.specs.Row.{bundleMax, emptyRow, pieceStep, cancelStep}
-use Rattle.receiver.specs.declared.Origin.the-variants.{Transfer}
-use Rattle.receiver.specs.State.{fresh}
-use Rattle.receiver.specs.Message.{Board, Handed, Outcome, cellAt, handedOf, moved, inRow, treatTransfer, transfer, step}
-use Rattle.receiver.proofs.Rows.{length-freed, getD-freed}
-use Rattle.receiver.proofs.Cells.{length-cell, length-put-cell}
+use Rattle.row.specs.declared.Row.{Row}
+use Rattle.row.specs.declared.Phase.the-variants.{Free}
+use Rattle.reassembly.specs.Rules as Rules
+use Rattle.pieces.specs.Pieces.{bundleMax}
+use Rattle.row.specs.Row.{emptyRow}
+use Rattle.reassembly.specs.Rules.{pieceStep, cancelStep}
+use Rattle.rows.specs.declared.Origin.the-variants.{Transfer}
+use Rattle.rows.specs.State.{fresh}
+use Rattle.rows.specs.Message.{Board, Handed, Outcome, cellAt, handedOf, moved, inRow, treatTransfer, transfer, step}
+use Rattle.rows.proofs.Rows.{length-freed, getD-freed}
+use Rattle.messages.proofs.Cells.{length-cell, length-put-cell}
 use Rattle.receiver.proofs.Pool.{cell-put, cell-other}
 use Rattle.receiver.proofs.Calls.{listed, boardAfter, handedBy}
 use Rattle.claims.specs.Record.{Transfers, numberAt, isLast, pieceAt, Honest, padding, whole, piece, cancelled}

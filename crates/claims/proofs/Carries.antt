@@ -11,9 +11,9 @@ use borrow.Author.Tests.{eqb-true, eqb-false}
 use Rattle.octets.proofs.Flags.{bool}
 use Rattle.wire.specs.Message.{Message, skipped, bundle, segment, last, cancel}
 use Rattle.window.specs.Window.{distance}
-use Rattle.reassembly.specs.Row.{bundleMax, sumOf}
-use Rattle.receiver.specs.declared.Origin.the-variants.{Whole, Transfer}
-use Rattle.receiver.specs.Message.{Handed}
+use Rattle.pieces.specs.Pieces.{bundleMax, sumOf}
+use Rattle.rows.specs.declared.Origin.the-variants.{Whole, Transfer}
+use Rattle.rows.specs.Message.{Handed}
 use Rattle.claims.specs.Demand3.{join}
 
 -- for each number that is begun, the pieces sent so far

@@ -10,11 +10,13 @@ use Rattle.wire.specs.Layout.{read}
 use Rattle.wire.specs.Frame.{messages}
 use Rattle.wire.proofs.Spans.{sized}
 use Rattle.window.specs.Window.{Window, sixteen, windowSize}
-use Rattle.sender.specs.declared.State.{State}
-use Rattle.sender.specs.Answers.{Outcome, isRefusal}
-use Rattle.sender.specs.Calls.{closed, flushCases, flush}
+use Rattle.framing.specs.declared.State.{State}
+use Rattle.framing.specs.Answers.{Outcome}
+use Rattle.framing.specs.Placing.{closed}
+use Rattle.sender.specs.Answers.{isRefusal}
+use Rattle.sender.specs.Calls.{flushCases, flush}
 use Rattle.sender.proofs.Ways.{unless-ways}
-use Rattle.receiver.specs.Message.{draft02, Board, Handed}
+use Rattle.rows.specs.Message.{draft02, Board, Handed}
 use Rattle.receiver.proofs.Calls.{boardAfter, handedBy}
 use Rattle.claims.specs.Calls.{Fresh, Entry, handedOf, Calls}
 use Rattle.claims.specs.Use.{taken, Used, flushing}

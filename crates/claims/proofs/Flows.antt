@@ -11,10 +11,10 @@ use lib.Seq.{take-add}
 use Rattle.octets.specs.Octets.{put}
 use Rattle.wire.specs.Message.{Message, skipped, bundle, segment, last, cancel as cancelled}
 use Rattle.wire.specs.Frame.{messages}
-use Rattle.reassembly.specs.Row.{bundleMax, sumOf}
-use Rattle.sender.specs.Answers.{placed}
-use Rattle.receiver.specs.declared.Origin.the-variants.{Whole, Transfer}
-use Rattle.receiver.specs.Message.{Handed}
+use Rattle.pieces.specs.Pieces.{bundleMax, sumOf}
+use Rattle.framing.specs.Answers.{placed}
+use Rattle.rows.specs.declared.Origin.the-variants.{Whole, Transfer}
+use Rattle.rows.specs.Message.{Handed}
 use Rattle.claims.specs.Demand3.{join}
 use Rattle.claims.proofs.Pieces.{join-snoc, sum-append}
 use Rattle.claims.proofs.Carries.{Begun, update-elim, update-same, Carries, pads, hands, opens, continues, ends, stops}

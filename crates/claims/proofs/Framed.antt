@@ -8,12 +8,12 @@ use lib.Seq.{drop-append-seam}
 use Rattle.wire.specs.Message.{Message, skipped, good}
 use Rattle.wire.specs.Layout.{read}
 use Rattle.wire.specs.Frame.{Item, row, prepend, items, follow, scan, scanned, messages}
-use Rattle.wire.specs.Written.{written, padding}
+use Rattle.writing.specs.Written.{written, padding}
 use Rattle.wire.proofs.Frames.{scan-step}
 use Rattle.wire.proofs.Spans.{sized}
-use Rattle.wire.proofs.Written.{Writable, read-written, read-padding, length-written, length-padding}
-use Rattle.receiver.specs.Message.{draft02}
-use Rattle.receiver.specs.Receive.{frameMax}
+use Rattle.writing.proofs.Written.{Writable, read-written, read-padding, length-written, length-padding}
+use Rattle.rows.specs.Message.{draft02}
+use Rattle.rows.specs.Message.{frameMax}
 use Rattle.receiver.proofs.Calls.{messagesIn}
 use Rattle.claims.specs.Record.{WellFormed}
 

@@ -9,8 +9,8 @@ use lib.ListN.{length}
 use lib.Dec.{leb}
 use Rattle.octets.proofs.Flags.{bool}
 use Rattle.wire.specs.Message.{Message, bundle}
-use Rattle.reassembly.specs.Row.{has, hasAll}
-use Rattle.receiver.specs.declared.Origin.the-variants.{Whole, Transfer}
+use Rattle.pieces.specs.Pieces.{has, hasAll}
+use Rattle.rows.specs.declared.Origin.the-variants.{Whole, Transfer}
 use Rattle.claims.specs.Record as Record
 use Rattle.claims.specs.Record.{Transfers, numberAt, pieceAt, Honest}
 use Rattle.claims.specs.Calls.{Delivery}

@@ -8,7 +8,7 @@ use native.Mathlib.Omega.{arith}
 use lib.Dec.{eqb}
 use borrow.Author.Tests.{eqb-true, eqb-false, ne-eqb}
 use Rattle.octets.proofs.Flags.{bool, both, or-cases}
-use Rattle.reassembly.specs.Row.{has, hasAll}
+use Rattle.pieces.specs.Pieces.{has, hasAll}
 
 pub has-snoc : (i j : ℕ) (is : List ℕ) → has i (is ++ j ∷ []) ≡ (has i is || eqb j i)
 unfolding has

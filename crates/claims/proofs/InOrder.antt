@@ -11,10 +11,12 @@ use lib.Seq.{getD-append-seam}
 use lib.Dec.{eqb}
 use borrow.Author.Tests.{eqb-false, eq-eqb, ne-eqb}
 use Rattle.octets.proofs.Flags.{bool}
-use Rattle.reassembly.specs.declared.Row.{Row}
-use Rattle.reassembly.specs.declared.Phase.the-variants.{Free}
-use Rattle.reassembly.specs.Row.{bundleMax, has, hasAll, sumOf, emptyRow, Outcome, pieceStep}
-use Rattle.reassembly.proofs.Lists.{all-lacks}
+use Rattle.row.specs.declared.Row.{Row}
+use Rattle.row.specs.declared.Phase.the-variants.{Free}
+use Rattle.pieces.specs.Pieces.{bundleMax, has, hasAll, sumOf}
+use Rattle.row.specs.Row.{emptyRow}
+use Rattle.reassembly.specs.Rules.{Outcome, pieceStep}
+use Rattle.pieces.proofs.Lists.{all-lacks}
 use Rattle.claims.specs.Record.{isLast}
 use Rattle.claims.specs.Demand3.{join}
 use Rattle.claims.proofs.Held.{has-snoc, has-all}

@@ -7,8 +7,8 @@ use Rattle.wire.specs.Message.{Message}
 use Rattle.wire.specs.Frame.{messages}
 use Rattle.wire.proofs.Spans.{sized}
 use Rattle.window.specs.Window.{Window, windowSize, sixteen}
-use Rattle.receiver.specs.declared.Origin.the-variants.{Transfer}
-use Rattle.receiver.specs.Message.{Draft, draft02, Board}
+use Rattle.rows.specs.declared.Origin.the-variants.{Transfer}
+use Rattle.rows.specs.Message.{Draft, draft02, Board}
 use Rattle.claims.specs.Record.{Transfers, Record}
 use Rattle.claims.specs.Calls.{Delivery, Entry, handedOf}
 use Rattle.claims.specs.Demand3.{delivery, NoneBehind, places, Measured, messagesOf, NoCancel, With, none, same, more, Kept, InRecord, OfRecord, content, joined, Reception, Demand3}

@@ -14,11 +14,13 @@ use borrow.Author.Tests.{eqb-true, eqb-false, eq-eqb, ne-eqb, le-ltb}
 use Rattle.octets.specs.Octets.{put}
 use Rattle.octets.proofs.Flags.{bool, both, or-right}
 use Rattle.octets.proofs.Put.{length-put}
-use Rattle.reassembly.specs.declared.Row.{Row}
-use Rattle.reassembly.specs.declared.Phase.the-variants.{Free, Done, Cancelled}
-use Rattle.reassembly.specs.Row.{bundleMax, has, hasAbove, hasAll, sumOf, indexesOf, lengthsOf, piece, joined, emptyRow, isLive, cancelled, contradiction, contradicts, judgeLive, judge, lastAfter, withPiece, complete, bundleOf, Outcome, settle, carryOut, pieceStep, cancelStep}
-use Rattle.reassembly.proofs.Joining.{piece-cons}
-use Rattle.reassembly.proofs.Kept.{Shaped, empty-shaped}
+use Rattle.row.specs.declared.Row.{Row}
+use Rattle.row.specs.declared.Phase.the-variants.{Free, Done, Cancelled}
+use Rattle.pieces.specs.Pieces.{bundleMax, has, hasAbove, hasAll, sumOf, piece, joined}
+use Rattle.row.specs.Row.{indexesOf, lengthsOf, emptyRow, isLive, contradiction, contradicts, judgeLive, judge}
+use Rattle.reassembly.specs.Rules.{cancelled, lastAfter, withPiece, complete, bundleOf, Outcome, settle, carryOut, pieceStep, cancelStep}
+use Rattle.pieces.proofs.Joining.{piece-cons}
+use Rattle.row.proofs.Shaped.{Shaped, empty-shaped}
 use Rattle.claims.specs.Record.{isLast}
 use Rattle.claims.specs.Demand3.{join}
 use Rattle.claims.proofs.Held.{has-snoc, has-either, all-has, lack, lack-add}

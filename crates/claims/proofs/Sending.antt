@@ -16,20 +16,23 @@ use Rattle.octets.proofs.Flags.{cond-elim, neither}
 use Rattle.wire.specs.Message.{Message, skipped, bundle, segment, last, cancel as cancelled, contentLength}
 use Rattle.wire.specs.Layout.{read}
 use Rattle.wire.specs.Frame.{items, scan, scanned, messages}
-use Rattle.wire.specs.Written.{written, piece, padding}
-use Rattle.wire.proofs.Written.{Writable, length-written, length-piece, length-padding}
-use Rattle.wire.proofs.Written as Written
-use Rattle.reassembly.specs.Row.{bundleMax}
-use Rattle.sender.specs.declared.State.{State}
-use Rattle.sender.specs.Answers.{Reply, StartReply, made, placed, placedAndReady, refused, Outcome, isRefusal}
+use Rattle.writing.specs.Written.{written, piece, padding}
+use Rattle.writing.proofs.Written.{Writable, length-written, length-piece, length-padding}
+use Rattle.writing.proofs.Written as Written
+use Rattle.pieces.specs.Pieces.{bundleMax}
+use Rattle.framing.specs.declared.State.{State}
+use Rattle.framing.specs.Answers.{Reply, placed, placedAndReady, refused, Outcome}
+use Rattle.framing.specs.Placing.{room, withFill, ended, numbered, continued, advanced, added, closed, placing}
+use Rattle.framing.proofs.Ways.{placing-ways}
+use Rattle.sender.specs.Answers.{StartReply, made, isRefusal}
 use Rattle.sender.specs.Sound.{roundedUp, sized, sound}
-use Rattle.sender.specs.Calls.{room, fresh, withFill, ended, numbered, continued, advanced, added, closed, placing, start, placeCases, place, cancelCases, cancel, flushCases, flush}
+use Rattle.sender.specs.Calls.{fresh, start, placeCases, place, cancelCases, cancel, flushCases, flush}
 use Rattle.sender.proofs.Facts.{Ranges, in-range, in-transfer, at-rest, same-length, lies-within}
-use Rattle.sender.proofs.Ways.{Passed, unless-ways, placing-ways}
+use Rattle.sender.proofs.Ways.{Passed, unless-ways}
 use Rattle.sender.proofs.Kept.{start-sound, place-sound, cancel-sound, flush-sound}
 use Rattle.sender.proofs.Refusals.{place-refused, cancel-refused, flush-refused}
-use Rattle.receiver.specs.declared.Origin.the-variants.{Whole, Transfer}
-use Rattle.receiver.specs.Message.{draft02, Handed}
+use Rattle.rows.specs.declared.Origin.the-variants.{Whole, Transfer}
+use Rattle.rows.specs.Message.{draft02, Handed}
 use Rattle.claims.specs.Record.{WellFormed}
 use Rattle.claims.specs.Use.{isReady, isPlaced, taken, finished, Call, toPlace, toCancel, toFlush, outcomeOf, Used, started, placing as place-used, cancelling, flushing, refusing}
 use Rattle.claims.proofs.Carries.{Begun, Carries, begin}

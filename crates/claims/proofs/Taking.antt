@@ -9,12 +9,13 @@ use Rattle.wire.specs.Message.{Message}
 use Rattle.wire.specs.Frame.{Item, items, messages, from}
 use Rattle.wire.proofs.Order.{Leads, leads, from-start, from-next, leads-behind, good-place}
 use Rattle.window.specs.Window.{Window}
-use Rattle.reassembly.specs.Row.{bundleMax}
-use Rattle.receiver.specs.declared.Origin.{Origin}
+use Rattle.pieces.specs.Pieces.{bundleMax}
+use Rattle.rows.specs.declared.Origin.{Origin}
 use Rattle.receiver.specs.declared.Refusal.{Refusal}
 use Rattle.receiver.specs.declared.Answer.the-variants.{Delivered, Finished, Refused}
-use Rattle.receiver.specs.Message.{Draft, Board}
-use Rattle.receiver.specs.Receive.{Reply, messagesFrom, treat, receive}
+use Rattle.rows.specs.Message.{Draft, Board}
+use Rattle.receiver.specs.Receive.{Reply, treat, receive}
+use Rattle.rows.specs.Message.{messagesFrom}
 use Rattle.receiver.proofs.Ready.{Ready, treat-ready, fresh-ready}
 use Rattle.receiver.proofs.Calls.{boardAfter, handedBy, messagesIn, Treated, through, stops, treating, refused-keeps, not-refused, admitted}
 use Rattle.claims.specs.Record.{WellFormed, Record}

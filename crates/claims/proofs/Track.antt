@@ -11,8 +11,8 @@ use borrow.Author.Tests.{eqb-true, eqb-false, eq-eqb}
 use Rattle.octets.proofs.Flags.{bool}
 use Rattle.wire.specs.Message.{Message, skipped, bundle, segment, last, cancel}
 use Rattle.window.specs.Window.{distance}
-use Rattle.reassembly.specs.Row.{has, hasAll}
-use Rattle.receiver.specs.declared.Origin.the-variants.{Whole, Transfer}
+use Rattle.pieces.specs.Pieces.{has, hasAll}
+use Rattle.rows.specs.declared.Origin.the-variants.{Whole, Transfer}
 use Rattle.claims.specs.Record.{Transfers, numberAt}
 use Rattle.claims.specs.Calls.{Delivery}
 use Rattle.claims.specs.Demand3.{join, delivery}

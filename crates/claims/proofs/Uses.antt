@@ -7,13 +7,14 @@ use native.Mathlib.Omega.{arith}
 use lib.ListN.{replicate}
 use Rattle.octets.specs.Octets.{be32, put}
 use Rattle.wire.specs.Message.{bundle, segment, last, cancel, kind, contentLength}
-use Rattle.wire.specs.Written.{header, contentOf, written, piece, padding}
+use Rattle.writing.specs.Written.{header, contentOf, written, piece, padding}
+use Rattle.framing.specs.Placing as Framing
 use Rattle.sender.specs.Answers.{unless, isRefusal}
 use Rattle.sender.specs.Sound as Sound
 use Rattle.sender.specs.Calls as Sender
-use Rattle.receiver.specs.declared.Origin.the-variants.{Whole, Transfer}
+use Rattle.rows.specs.declared.Origin.the-variants.{Whole, Transfer}
 use Rattle.window.specs.Window.{windowSize}
-use Rattle.receiver.specs.Message.{draft02, Board, Handed}
+use Rattle.rows.specs.Message.{draft02, Board, Handed}
 use Rattle.claims.specs.Calls.{Fresh, Entry, handedOf, Calls}
 use Rattle.claims.specs.Demand3.{delivery}
 use Rattle.claims.specs.Use.{isReady, isPlaced, taken, finished, toCancel, outcomeOf, Used, started, placing, cancelling, flushing, refusing}
@@ -37,7 +38,7 @@ unfoldable pub bundles : List Handed
 bundles = record { origin = Transfer 0; octets = long } ∷ record { origin = Whole; octets = short } ∷ []
 
 pub used : Flushed frames bundles
-unfolding long short frames bundles be32 put kind contentLength header contentOf written piece padding unless isRefusal Sound.sound Sender.start Sender.place Sender.placeCases Sender.cancel Sender.cancelCases Sender.flush Sender.flushCases Sender.placing Sender.placePiece Sender.added Sender.advanced Sender.closed isReady isPlaced taken finished outcomeOf
+unfolding long short frames bundles be32 put kind contentLength header contentOf written piece padding unless isRefusal Sound.sound Sender.start Sender.place Sender.placeCases Sender.cancel Sender.cancelCases Sender.flush Sender.flushCases Framing.placing Framing.placePiece Framing.added Framing.advanced Framing.closed isReady isPlaced taken finished outcomeOf
 used =
     let begun : Used 128 4294967295 _ _ long _ [] = placing long (λ _. refl) (started {s = Sender.fresh 128 4294967295} (replicate 128 7) long refl) in
     let again : Used 128 4294967295 _ _ long _ [] = placing long (λ _. refl) (refusing toCancel [] refl (cancelling begun)) in

@@ -3,12 +3,12 @@ use mathlib.Core.Path.{_≡_}
 use mathlib.Core.List.{List, [], _∷_, _++_}
 use Prim.Native.Nat.{ℕ, _*_}
 use lib.ListN.{length, take}
-use Rattle.reassembly.specs.Row.{bundleMax}
-use Rattle.receiver.specs.declared.Origin.{Origin}
+use Rattle.pieces.specs.Pieces.{bundleMax}
+use Rattle.rows.specs.declared.Origin.{Origin}
 use Rattle.receiver.specs.declared.Refusal.{Refusal}
 use Rattle.receiver.specs.declared.Answer.the-variants.{Delivered, Finished, Refused}
-use Rattle.receiver.specs.State.{fresh}
-use Rattle.receiver.specs.Message.{Draft, Board}
+use Rattle.rows.specs.State.{fresh}
+use Rattle.rows.specs.Message.{Draft, Board}
 use Rattle.receiver.specs.Receive.{receive}
 
 -- "A fresh board has G absent and all rows Free, as the receiver's start leaves it, and a pool of any octets."

@@ -3,8 +3,8 @@ use mathlib.Core.Path.{_≡_}
 use mathlib.Core.Bool.{false}
 use mathlib.Core.List.{List, map}
 use Prim.Native.Nat.{ℕ, _<_, _^_}
-use Rattle.sender.specs.declared.State.{State}
-use Rattle.receiver.specs.Message.{draft02, Board, Handed}
+use Rattle.framing.specs.declared.State.{State}
+use Rattle.rows.specs.Message.{draft02, Board, Handed}
 use Rattle.claims.specs.Calls.{Fresh, Entry, handedOf, Calls}
 use Rattle.claims.specs.Demand3.{delivery}
 use Rattle.claims.specs.Use.{Used}

@@ -7,9 +7,9 @@ use lib.ListN.{length}
 use Rattle.wire.specs.Message.{Message, skipped, bundle, segment, last, cancel}
 use Rattle.wire.specs.Frame.{Sized, messages}
 use Rattle.window.specs.Window.{distance}
-use Rattle.receiver.specs.declared.Origin.{Origin}
-use Rattle.receiver.specs.declared.Origin.the-variants.{Whole, Transfer}
-use Rattle.receiver.specs.Message.{Draft, Board}
+use Rattle.rows.specs.declared.Origin.{Origin}
+use Rattle.rows.specs.declared.Origin.the-variants.{Whole, Transfer}
+use Rattle.rows.specs.Message.{Draft, Board}
 use Rattle.claims.specs.Record.{Transfers, numberAt, pieceAt, Record}
 use Rattle.claims.specs.Calls.{Fresh, Delivery, Entry, handedOf, Calls}
 

@@ -5,12 +5,12 @@ use Prim.Native.Nat.{ℕ}
 use lib.ListN.{take, length, replicate}
 use Rattle.wire.specs.declared.Fault.the-variants.{ShortHeader, ReservedFlag, PastFrame, PastMessage, BadContent}
 use Rattle.window.specs.Window.{windowSize}
-use Rattle.receiver.specs.declared.Origin.the-variants.{Whole, Transfer}
+use Rattle.rows.specs.declared.Origin.the-variants.{Whole, Transfer}
 use Rattle.receiver.specs.declared.Answer.{Answer}
 use Rattle.receiver.specs.declared.Answer.the-variants.{Delivered, Finished, Refused}
 use Rattle.receiver.specs.declared.Refusal.the-variants.{Malformed}
-use Rattle.receiver.specs.State.{fresh}
-use Rattle.receiver.specs.Message.{draft02, Board}
+use Rattle.rows.specs.State.{fresh}
+use Rattle.rows.specs.Message.{draft02, Board}
 use Rattle.receiver.specs.Receive.{Reply, receive}
 
 -- what a call from place 0 answers, and the octets of its bundle

@@ -7,9 +7,9 @@ use lib.ListN.{length, getD}
 use lib.Dec.{eqb}
 use Rattle.wire.specs.Message.{Message, skipped, bundle, segment, last, cancel}
 use Rattle.wire.specs.Frame.{Item, row, scanned, messages}
-use Rattle.reassembly.specs.Row.{bundleMax, sumOf}
-use Rattle.receiver.specs.Message.{Draft}
-use Rattle.receiver.specs.Receive.{frameMax}
+use Rattle.pieces.specs.Pieces.{bundleMax, sumOf}
+use Rattle.rows.specs.Message.{Draft}
+use Rattle.rows.specs.Message.{frameMax}
 
 -- "A frame is one link-layer PDU, 1 to 2,048 octets. It is a row of messages that ends exactly at its end."
 pub record WellFormed (D : Draft) (frame : List ℕ) : Type 0 where

@@ -3,11 +3,12 @@ use mathlib.Core.Path.{_≡_}
 use mathlib.Core.Bool.{Bool, true, false, cond, not, _&&_}
 use mathlib.Core.List.{List, [], _∷_, _++_}
 use Prim.Native.Nat.{ℕ}
-use Rattle.sender.specs.declared.State.{State}
-use Rattle.sender.specs.Answers.{Reply, placed, placedAndReady, ready, nothing, refused, made, Outcome, isRefusal}
+use Rattle.framing.specs.declared.State.{State}
+use Rattle.framing.specs.Answers.{Reply, placed, placedAndReady, ready, nothing, refused, Outcome}
+use Rattle.sender.specs.Answers.{made, isRefusal}
 use Rattle.sender.specs.Calls.{start, place, cancel, flush}
-use Rattle.receiver.specs.declared.Origin.the-variants.{Whole, Transfer}
-use Rattle.receiver.specs.Message.{Handed}
+use Rattle.rows.specs.declared.Origin.the-variants.{Whole, Transfer}
+use Rattle.rows.specs.Message.{Handed}
 
 -- "Answers: Placed; Placed and ready; Ready."
 unfoldable pub isReady : Reply → Bool

@@ -1,32 +1,29 @@
 -- What a segment, an end or a cancel keeps: a sound row stays sound, lengths stay, and a bundle that is handed out fits.
-use mathlib.Core.Path.{_≡_, refl, sym, ap, _∙_}
-use mathlib.Core.Bool.{Bool, true, false, not, _&&_, _||_, Bool·beq, false≢true}
+use mathlib.Core.Path.{_≡_, refl, ap, _∙_}
+use mathlib.Core.Bool.{Bool, true, false, not, _&&_, _||_, Bool·beq}
 use mathlib.Core.Option.{Option, none, some}
 use mathlib.Core.List.{List, [], _∷_, _++_}
-use mathlib.Core.Logic.{_⊎_, inl, inr}
-use Prim.Native.Nat.{ℕ, zero, suc, _+_, _≤_, _<_}
+use Prim.Native.Nat.{ℕ, _+_, _≤_, _<_}
 use native.Mathlib.Numerals.{add-one}
 use native.Mathlib.Omega.{arith}
 use lib.ListN.{length, drop, set, length-set}
-use lib.Seq.{take-suc-set, drop-set-lt}
+use lib.Seq.{take-suc-set}
 use lib.Dec.{eqb, ltb, leb}
-use borrow.Author.Tests.{eqb-false, eq-eqb, ne-eqb, ltb-false, le-ltb, le-leb, not-true}
+use borrow.Author.Tests.{eq-eqb, ltb-false, le-leb}
 use Rattle.octets.specs.Octets.{put}
-use Rattle.octets.proofs.Flags.{and, both, or-cases, or-left, or-right, neither, cond-elim}
+use Rattle.octets.proofs.Flags.{and, neither, cond-elim}
 use Rattle.octets.proofs.Put.{length-put}
-use Rattle.reassembly.specs.declared.Row.{Row}
-use Rattle.reassembly.specs.declared.Verdict.{Verdict}
-use Rattle.reassembly.specs.declared.Phase.{Phase}
-use Rattle.reassembly.specs.declared.Phase.the-variants.{Done, Cancelled, Abandoned}
-use Rattle.reassembly.specs.Row.{bundleMax, has, hasAbove, hasAll, distinct, sumOf, isZeros, lowAndDistinct, indexesOf, lengthsOf, emptyRow, isLive, isOpen, cancelled, contradiction, contradicts, lastAfter, withPiece, complete, bundleOf, Outcome, silent, settle, carryOut, pieceStep, soundLast, zeroFrom, soundPieces, soundOpen, soundEmpty, soundRow}
-use Rattle.reassembly.proofs.Joining.{joined-fits}
-use Rattle.reassembly.proofs.Sound.{Sound, sound-facts, room}
-use Rattle.reassembly.proofs.Judging.{Accepted, judged}
-
--- the array lengths, which the types of the program give
-pub record Shaped (r : Row) : Type 0 where
-  pub indexes64 : length (r .indexes) ≡ 64
-  pub lengths64 : length (r .lengths) ≡ 64
+use Rattle.pieces.specs.Pieces.{bundleMax, has, hasAbove, hasAll, distinct, sumOf, isZeros, lowAndDistinct, zeroFrom}
+use Rattle.pieces.proofs.Appending.{sum-snoc, has-last, has-more, above-snoc, distinct-snoc, zeros-after}
+use Rattle.pieces.proofs.Joining.{joined-fits}
+use Rattle.row.specs.declared.Row.{Row}
+use Rattle.row.specs.declared.Verdict.{Verdict}
+use Rattle.row.specs.declared.Phase.the-variants.{Done, Cancelled, Abandoned}
+use Rattle.row.specs.Row.{indexesOf, lengthsOf, emptyRow, isLive, contradiction, contradicts, soundLast, soundPieces, soundOpen, soundRow}
+use Rattle.row.proofs.Shaped.{Shaped, empty-shaped}
+use Rattle.row.proofs.Sound.{Sound, sound-facts, room, empty-sound}
+use Rattle.row.proofs.Judging.{Accepted, judged}
+use Rattle.reassembly.specs.Rules.{cancelled, lastAfter, withPiece, complete, bundleOf, Outcome, silent, settle, carryOut, pieceStep}
 
 -- a row whose pieces can be joined
 pub record Joinable (r : Row) : Type 0 where
@@ -34,58 +31,8 @@ pub record Joinable (r : Row) : Type 0 where
   pub last : r .last < 64
   pub fits : sumOf (lengthsOf r) ≤ bundleMax
 
--- ---- lists with one entry more
+-- ---- the final index with one piece more
 
-sum-snoc : (n : ℕ) (ls : List ℕ) → sumOf (ls ++ n ∷ []) ≡ sumOf ls + n
-unfolding sumOf
-sum-snoc n [] = omega arith
-sum-snoc n (l ∷ ls) = omega (arith, sum-snoc n ls)
-
-has-snoc : (i j : ℕ) (is : List ℕ) → has i is ≡ false → eqb j i ≡ false → has i (is ++ j ∷ []) ≡ false
-unfolding has
-has-snoc i j [] h e = rw e
-has-snoc i j (x ∷ is) h e = let p = neither (eqb x i) (has i is) h in rw (p .0, has-snoc i j is (p .1) e)
-
-has-last : (i : ℕ) (is : List ℕ) → has i (is ++ i ∷ []) ≡ true
-unfolding has
-has-last i [] = rw (eq-eqb i i refl)
-has-last i (x ∷ is) = or-right (eqb x i) (has i (is ++ i ∷ [])) (has-last i is)
-
-has-more : (i j : ℕ) (is : List ℕ) → has i is ≡ true → has i (is ++ j ∷ []) ≡ true
-unfolding has
-has-more i j [] h = absurd (false≢true h)
-has-more i j (x ∷ is) h = go (has-more i j is) (or-cases (eqb x i) (has i is) h)
-  where
-    go : (has i is ≡ true → has i (is ++ j ∷ []) ≡ true) → (eqb x i ≡ true) ⊎ (has i is ≡ true) → (eqb x i || has i (is ++ j ∷ [])) ≡ true
-    go ih (inl e) = or-left (eqb x i) (has i (is ++ j ∷ [])) e
-    go ih (inr e) = or-right (eqb x i) (has i (is ++ j ∷ [])) (ih e)
-
-above-snoc : (i j : ℕ) (is : List ℕ) → hasAbove i is ≡ false → j ≤ i → hasAbove i (is ++ j ∷ []) ≡ false
-unfolding hasAbove
-above-snoc i j [] h le = rw (le-ltb i j le)
-above-snoc i j (x ∷ is) h le = let p = neither (ltb i x) (hasAbove i is) h in rw (p .0, above-snoc i j is (p .1) le)
-
-distinct-snoc : (i : ℕ) (is : List ℕ) → distinct is ≡ true → has i is ≡ false → distinct (is ++ i ∷ []) ≡ true
-unfolding distinct has
-distinct-snoc i [] d h = refl
-distinct-snoc i (x ∷ is) d h =
-    let p = both (not (has x is)) (distinct is) d in
-    let q = neither (eqb x i) (has i is) h in
-    let apart : x ≡ i → ⊥ = eqb-false x i (q .0) in
-    let e : has x (is ++ i ∷ []) ≡ false = has-snoc x i is (not-true (has x is) (p .0)) (ne-eqb i x (λ z. apart (sym z))) in
-    rw (e, distinct-snoc i is (p .1) (q .1))
-
-zeros-tail : (n : ℕ) (xs : List ℕ) → isZeros (drop n xs) ≡ true → isZeros (drop (suc n) xs) ≡ true
-unfolding isZeros
-zeros-tail zero [] e = refl
-zeros-tail zero (x ∷ xs) e = both (eqb x 0) (isZeros xs) e .1
-zeros-tail (suc n) [] e = refl
-zeros-tail (suc n) (x ∷ xs) e = zeros-tail n xs e
-
-zeros-after : (n : ℕ) (xs : List ℕ) (x : ℕ) → isZeros (drop n xs) ≡ true → isZeros (drop (n + 1) (set xs n x)) ≡ true
-zeros-after n xs x z = rw (add-one, drop-set-lt (suc n) xs n x (omega arith)) (zeros-tail n xs z)
-
--- the final index with one piece more
 all-of-last : (last : ℕ) (is : List ℕ) → has last is ≡ true → hasAbove last is ≡ false → hasAll (last + 1) is ≡ false → (has last is && not (hasAbove last is) && not (hasAll (last + 1) is)) ≡ true
 all-of-last last is h a c = rw (h, a, c)
 
@@ -154,15 +101,6 @@ module _ (r : Row) (ending : Bool) (i n : ℕ) (S : Sound r) (Z : Shaped r) (A :
       (and (leb 1 (r .held + 1)) _ (le-leb 1 (r .held + 1) (omega arith)) (le-leb (r .held + 1) 64 (omega (arith, space))))
       pieces-after)
       (final-after lacks)
-
--- ---- an empty row
-
-pub empty-sound : (p : Phase) → isOpen p ≡ false → soundRow (emptyRow p) ≡ true
-unfolding soundRow soundEmpty zeroFrom isZeros
-empty-sound p e = rw e
-
-pub empty-shaped : (p : Phase) → Shaped (emptyRow p)
-empty-shaped p = record { indexes64 = refl; lengths64 = refl }
 
 -- ---- a cancel
 

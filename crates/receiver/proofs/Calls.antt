@@ -12,12 +12,13 @@ use borrow.Author.Tests.{eq-eqb, ne-eqb, le-ltb}
 use Rattle.octets.specs.Octets.{put}
 use Rattle.wire.specs.Message.{Message}
 use Rattle.wire.specs.Frame.{Item, row, items, scanned, starts, checked, judged, from}
-use Rattle.reassembly.specs.Row.{bundleMax}
+use Rattle.pieces.specs.Pieces.{bundleMax}
 use Rattle.receiver.specs.declared.Refusal.{Refusal}
 use Rattle.receiver.specs.declared.Answer.the-variants.{Delivered, Finished, Refused}
-use Rattle.receiver.specs.State as State
-use Rattle.receiver.specs.Message.{Draft, Board, Handed, step}
-use Rattle.receiver.specs.Receive.{frameMax, frameRefusal, replied, delivered, messagesFrom, refusal, treat, receive}
+use Rattle.rows.specs.State as State
+use Rattle.rows.specs.Message.{Draft, Board, Handed, step}
+use Rattle.rows.specs.Message.{frameMax, messagesFrom}
+use Rattle.receiver.specs.Receive.{frameRefusal, replied, delivered, refusal, treat, receive}
 
 -- what messages hand out, and the board that they leave
 unfoldable pub listed : Option Handed → List Handed

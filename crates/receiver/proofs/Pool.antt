@@ -11,9 +11,9 @@ use lib.Dec.{ltb}
 use borrow.Author.Tests.{ltb-true, ltb-false}
 use Rattle.octets.specs.Octets.{put}
 use Rattle.octets.proofs.Flags.{bool}
-use Rattle.reassembly.specs.Row.{bundleMax}
-use Rattle.receiver.specs.Message.{cellAt, putCell}
-use Rattle.receiver.proofs.Cells.{cell-within, length-cell, length-put-cell}
+use Rattle.pieces.specs.Pieces.{bundleMax}
+use Rattle.rows.specs.Message.{cellAt, putCell}
+use Rattle.messages.proofs.Cells.{cell-within, length-cell, length-put-cell}
 
 -- octets before and behind what is put stay
 module _ (d : List ℕ) (at : ℕ) (vs : List ℕ) (within : at + length vs ≤ length d) where

@@ -14,18 +14,23 @@ use Rattle.window.specs.declared.Standing.{Standing}
 use Rattle.window.specs.declared.Standing.the-variants.{Inside, New, Outside}
 use Rattle.window.specs.Window.{Window, standingOf, rowOf, enters}
 use Rattle.window.proofs.Entering.{inside-present, row-below}
-use Rattle.reassembly.specs.declared.Row.{Row}
-use Rattle.reassembly.specs.declared.Phase.the-variants.{Free}
-use Rattle.reassembly.specs.Row as Rules
-use Rattle.reassembly.specs.Row.{bundleMax, emptyRow, soundRow, pieceStep, cancelStep}
-use Rattle.reassembly.proofs.Kept.{Shaped, empty-sound, empty-shaped, cancel-sound, cancel-shaped, piece-sound, piece-shaped, piece-cell}
+use Rattle.row.specs.declared.Row.{Row}
+use Rattle.row.specs.declared.Phase.the-variants.{Free}
+use Rattle.reassembly.specs.Rules as Rules
+use Rattle.pieces.specs.Pieces.{bundleMax}
+use Rattle.row.specs.Row.{emptyRow, soundRow}
+use Rattle.reassembly.specs.Rules.{pieceStep, cancelStep}
+use Rattle.row.proofs.Shaped.{Shaped, empty-shaped}
+use Rattle.row.proofs.Sound.{empty-sound}
+use Rattle.reassembly.proofs.Kept.{cancel-sound, cancel-shaped, piece-sound, piece-shaped, piece-cell}
 use Rattle.receiver.specs.declared.Refusal.{Refusal}
-use Rattle.receiver.specs.State as State
-use Rattle.receiver.specs.State.{isFree, soundIn, soundRows, fresh}
-use Rattle.receiver.specs.Message.{Draft, Board, Handed, Outcome, cellAt, moved, inRow, treatTransfer, step}
-use Rattle.receiver.specs.Receive.{Reply, replied, delivered, messagesFrom, refusal, treat, receive}
-use Rattle.receiver.proofs.Rows.{sound-get, sound-set, sound-present, sound-freed, length-freed, getD-freed}
-use Rattle.receiver.proofs.Cells.{length-cell, length-put-cell}
+use Rattle.rows.specs.State as State
+use Rattle.rows.specs.State.{isFree, soundIn, soundRows, fresh}
+use Rattle.rows.specs.Message.{Draft, Board, Handed, Outcome, cellAt, moved, inRow, treatTransfer, step}
+use Rattle.receiver.specs.Receive.{Reply, replied, delivered, refusal, treat, receive}
+use Rattle.rows.specs.Message.{messagesFrom}
+use Rattle.rows.proofs.Rows.{sound-get, sound-set, sound-present, sound-freed, length-freed, getD-freed}
+use Rattle.messages.proofs.Cells.{length-cell, length-put-cell}
 
 pub record Ready (w : ℕ) (b : Board) : Type 0 where
   pub sound : State.sound (b .state) ≡ true

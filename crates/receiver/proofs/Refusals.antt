@@ -15,11 +15,12 @@ use Rattle.wire.specs.Message.{faultNumber}
 use Rattle.wire.specs.declared.Checked.{Checked}
 use Rattle.wire.specs.declared.Checked.the-variants as Frame
 use Rattle.wire.specs.declared.Fault.the-variants.{ShortHeader, ReservedFlag, PastFrame, PastMessage, BadContent}
-use Rattle.reassembly.specs.Row.{bundleMax}
-use Rattle.receiver.specs.Message.{Draft, Board}
-use Rattle.receiver.specs.Receive.{frameMax, refusalNumber, frameRefusal, replied, refusal, treat, messagesFrom, receive}
-use Rattle.receiver.specs.Run.{admission}
-use Rattle.receiver.specs.State.{sound}
+use Rattle.pieces.specs.Pieces.{bundleMax}
+use Rattle.rows.specs.Message.{Draft, Board}
+use Rattle.rows.specs.Message.{frameMax, messagesFrom}
+use Rattle.receiver.specs.Receive.{refusalNumber, frameRefusal, replied, refusal, treat, receive}
+use Rattle.receiver.specs.Steps.{admission}
+use Rattle.rows.specs.State.{sound}
 use Rattle.receiver.specs.declared.Admission.the-variants.{Admitted, Denied}
 use Rattle.receiver.specs.declared.Answer.the-variants.{Refused}
 use Rattle.receiver.specs.declared.Refusal.{Refusal}

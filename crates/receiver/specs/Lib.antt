@@ -1,4 +1,2 @@
-pub mod State
-pub mod Message
 pub mod Receive
-pub mod Run
+pub mod Steps

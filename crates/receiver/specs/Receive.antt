@@ -1,5 +1,5 @@
 -- The receiving call (document 01, "Receiving call" and "Numbers of refusal"), over the draft and the window size w.
-use mathlib.Core.Bool.{Bool, cond, not, _||_}
+use mathlib.Core.Bool.{cond, not, _||_}
 use mathlib.Core.Option.{Option, none, some}
 use mathlib.Core.List.{List, [], _∷_}
 use Prim.Native.Nat.{ℕ, _*_}
@@ -9,19 +9,15 @@ use Rattle.octets.specs.Octets.{put}
 use Rattle.wire.specs.Message.{faultNumber}
 use Rattle.wire.specs.declared.Checked.{Checked}
 use Rattle.wire.specs.declared.Checked.the-variants as Frame
-use Rattle.wire.specs.Frame.{Item, items, scanned, checked, from}
-use Rattle.reassembly.specs.Row.{bundleMax}
+use Rattle.wire.specs.Frame.{Item, checked}
+use Rattle.pieces.specs.Pieces.{bundleMax}
 use Rattle.receiver.specs.declared.Answer.{Answer}
 use Rattle.receiver.specs.declared.Answer.the-variants.{Delivered, Finished, Refused}
 use Rattle.receiver.specs.declared.Refusal.{Refusal}
 use Rattle.receiver.specs.declared.Refusal.the-variants.{Unsound, BufferSize, FrameSize, Malformed, Misplaced}
 use Rattle.receiver.specs.declared.Received.{Received}
-use Rattle.receiver.specs.State.{sound}
-use Rattle.receiver.specs.Message.{Draft, Board, Handed, Outcome, step}
-
--- the most octets of a frame
-abbrev pub frameMax : ℕ
-frameMax = 2048
+use Rattle.rows.specs.State.{sound}
+use Rattle.rows.specs.Message.{Draft, frameMax, messagesFrom, Board, Handed, Outcome, step}
 
 -- document 01's numbers of refusal, and the place that the answer names: the first bad message's start, for 4 to 8
 abbrev pub refusalNumber : Refusal → ℕ
@@ -63,10 +59,6 @@ replied (some refusal) b output reply = record { answer = Refused refusal; board
 unfoldable pub delivered : Option Handed → Board → ℕ → List ℕ → Reply → Reply
 delivered none b next output later = later
 delivered (some h) b next output later = record { answer = Delivered (length (h .octets)) next (h .origin); board = b; output = put output 0 (h .octets) }
-
--- the messages of a frame from a place on
-unfoldable pub messagesFrom : Draft → List ℕ → ℕ → List Item
-messagesFrom D frame place = from place (items (scanned (D .read) frame))
 
 module _ (D : Draft) (w : ℕ) where
   -- the first refusal that applies

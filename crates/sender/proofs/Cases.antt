@@ -6,11 +6,13 @@ use lib.ListN.{length, drop, replicate}
 use Rattle.octets.specs.Octets.{number, be32, put}
 use Rattle.wire.specs.Message.{skipped, bundle, segment, last, Read, good, kind, contentLength}
 use Rattle.wire.specs.Layout.{zeros, kindOf, lengthField, chain, hints, fitting, message, content, body, bodied, headed, read}
-use Rattle.wire.specs.Written.{header, contentOf, written, piece, padding}
-use Rattle.sender.specs.declared.State.{State}
-use Rattle.sender.specs.Answers.{Reply, placed, placedAndReady, ready, Outcome, unless}
+use Rattle.writing.specs.Written.{header, contentOf, written, piece, padding}
+use Rattle.framing.specs.declared.State.{State}
+use Rattle.framing.specs.Answers.{Reply, placed, placedAndReady, ready, Outcome}
+use Rattle.framing.specs.Placing.{room, advanced, added, closed, placePiece, placing}
+use Rattle.sender.specs.Answers.{unless}
 use Rattle.sender.specs.Sound.{sound}
-use Rattle.sender.specs.Calls.{room, fresh, advanced, added, closed, placePiece, placing, placeCases, place}
+use Rattle.sender.specs.Calls.{fresh, placeCases, place}
 
 -- n octets of a bundle, from its octet i on
 octetsFrom : ℕ → ℕ → List ℕ

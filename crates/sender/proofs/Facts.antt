@@ -9,8 +9,9 @@ use native.Mathlib.Omega.{arith}
 use lib.Dec.{eqb}
 use borrow.Author.Tests.{leb-true, ltb-true, eqb-true, not-false, le-leb, lt-ltb, eq-eqb}
 use Rattle.octets.proofs.Flags.{both}
-use Rattle.sender.specs.declared.State.{State}
-use Rattle.sender.specs.Sound.{bundleMax, roundedUp, ranges, cleared, underWay, fewPieces, sound}
+use Rattle.framing.specs.declared.State.{State}
+use Rattle.framing.specs.Placing.{bundleMax}
+use Rattle.sender.specs.Sound.{roundedUp, ranges, cleared, underWay, fewPieces, sound}
 
 pub record Ranges (s : State) : Type 0 where
   pub low : 128 ≤ s .size

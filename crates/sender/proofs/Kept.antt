@@ -12,13 +12,16 @@ use lib.Dec.{eqb}
 use borrow.Author.Tests.{eq-eqb, ne-eqb, eqb-false, leb-true, ltb-false, not-false}
 use Rattle.octets.proofs.Flags.{cond-elim, both, neither}
 use Rattle.wire.specs.Message.{Message, bundle, cancel as cancelling, contentLength}
-use Rattle.wire.specs.Written.{written, piece}
-use Rattle.wire.proofs.Written.{length-written, length-piece}
-use Rattle.sender.specs.declared.State.{State}
-use Rattle.sender.specs.Answers.{StartReply, made, placed, Outcome, unless}
-use Rattle.sender.specs.Sound.{bundleMax, roundedUp, sized, sound}
-use Rattle.sender.specs.Calls.{room, fresh, withFill, ended, numbered, continued, advanced, added, closed, placing, start, placeCases, place, cancelCases, cancel, flushCases, flush}
-use Rattle.sender.proofs.Ways.{Passed, unless-ways, placing-ways}
+use Rattle.writing.specs.Written.{written, piece}
+use Rattle.writing.proofs.Written.{length-written, length-piece}
+use Rattle.framing.specs.declared.State.{State}
+use Rattle.framing.specs.Answers.{placed, Outcome}
+use Rattle.framing.specs.Placing.{bundleMax, room, withFill, ended, numbered, continued, advanced, added, closed, placing}
+use Rattle.framing.proofs.Ways.{placing-ways}
+use Rattle.sender.specs.Answers.{StartReply, made, unless}
+use Rattle.sender.specs.Sound.{roundedUp, sized, sound}
+use Rattle.sender.specs.Calls.{fresh, start, placeCases, place, cancelCases, cancel, flushCases, flush}
+use Rattle.sender.proofs.Ways.{Passed, unless-ways}
 use Rattle.sender.proofs.Facts.{Begun, Cleared, in-range, in-transfer, at-rest, same-length, sound-of}
 
 abbrev Sound : Outcome → Type 0

@@ -4,7 +4,6 @@
 --     Ways       the ways through the calls
 --     Facts      what a sound state says
 pub mod Facts
-pub mod Steps
 pub mod Ways
 pub mod Refusals
 pub mod Kept

@@ -2,8 +2,7 @@
 --     place-first, cancel-first, flush-first, start-first     a call's number of refusal is that of the first case that applies
 --     place-refused, cancel-refused, flush-refused     a refused call gives back state and frame as they were
 --     place-numbers, cancel-numbers, flush-numbers     the cases stand in the paper's order
---     same-answer     an answer's words and number determine it
-use mathlib.Core.Path.{_≡_, refl, sym, ap, _∙_}
+use mathlib.Core.Path.{_≡_, refl, sym, _∙_}
 use mathlib.Core.Bool.{true, false, cond, false≢true}
 use mathlib.Core.List.{List, [], _∷_}
 use Prim.Native.Nat.{ℕ, _+_}
@@ -11,15 +10,14 @@ use lib.ListN.{length}
 use lib.Dec.{eqb}
 use Rattle.octets.proofs.Flags.{cond-elim}
 use Rattle.wire.specs.Message.{Message, cancel as cancelling}
-use Rattle.wire.specs.Written.{written}
-use Rattle.sender.specs.declared.State.{State}
-use Rattle.sender.specs.declared.Refusal.the-variants.{Unsound, WrongBuffer, BundleSize, OtherLength, NoTransfer, FrameSize}
-use Rattle.sender.specs.declared.Answer.{Answer}
-use Rattle.sender.specs.declared.Answer.the-variants.{Placed, PlacedReady, Ready, Nothing, Refused}
-use Rattle.sender.specs.Answers.{Reply, placed, placedAndReady, ready, nothing, refused, reply, Outcome, Case, refusal, unless, firstOf, isRefusal, replyNumber, StartReply, startNumber}
+use Rattle.writing.specs.Written.{written}
+use Rattle.framing.specs.declared.State.{State}
+use Rattle.framing.specs.Answers.{Reply, placed, placedAndReady, ready, nothing, refused, Outcome}
+use Rattle.framing.specs.Placing.{ended, advanced, added, closed, placing}
+use Rattle.framing.proofs.Ways.{placing-ways}
+use Rattle.sender.specs.Answers.{Case, refusal, unless, firstOf, isRefusal, replyNumber, StartReply, startNumber}
 use Rattle.sender.specs.Sound.{sized}
-use Rattle.sender.specs.Calls.{ended, advanced, added, closed, placing, placeCases, place, cancelCases, cancel, flushCases, flush, start}
-use Rattle.sender.proofs.Ways.{placing-ways}
+use Rattle.sender.specs.Calls.{placeCases, place, cancelCases, cancel, flushCases, flush, start}
 
 abbrev Carried : Outcome → Type 0
 Carried o = isRefusal (o .answer) ≡ false
@@ -107,29 +105,3 @@ cancel-numbers s d = refl
 pub flush-numbers : (s : State) (d : List ℕ) → numbers (flushCases s d) ≡ 1 ∷ 10 ∷ []
 unfolding flushCases numbers
 flush-numbers s d = refl
-
--- ---- an answer is determined by its words and number
-
-answerOf : Reply → Answer
-answerOf placed = Placed
-answerOf placedAndReady = PlacedReady
-answerOf ready = Ready
-answerOf nothing = Nothing
-answerOf (refused n) =
-    Refused (cond (eqb n 1) Unsound (cond (eqb n 10) WrongBuffer (cond (eqb n 11) BundleSize (cond (eqb n 12) OtherLength (cond (eqb n 13) NoTransfer FrameSize)))))
-
-answer-back : (a : Answer) → answerOf (reply a) ≡ a
-unfolding reply answerOf
-answer-back Placed = refl
-answer-back PlacedReady = refl
-answer-back Ready = refl
-answer-back Nothing = refl
-answer-back (Refused Unsound) = refl
-answer-back (Refused WrongBuffer) = refl
-answer-back (Refused BundleSize) = refl
-answer-back (Refused OtherLength) = refl
-answer-back (Refused NoTransfer) = refl
-answer-back (Refused FrameSize) = refl
-
-pub same-answer : (a b : Answer) → reply a ≡ reply b → a ≡ b
-same-answer a b e = sym (answer-back a) ∙ ap answerOf e ∙ answer-back b

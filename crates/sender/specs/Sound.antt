@@ -2,11 +2,8 @@
 use mathlib.Core.Bool.{Bool, cond, _&&_}
 use Prim.Native.Nat.{ℕ, _+_, _-_, _/_}
 use lib.Dec.{leb, ltb, eqb}
-use Rattle.sender.specs.declared.State.{State}
-
--- the longest bundle
-abbrev pub bundleMax : ℕ
-bundleMax = 4096
+use Rattle.framing.specs.declared.State.{State}
+use Rattle.framing.specs.Placing.{bundleMax}
 
 -- n divided by d, rounded up
 abbrev pub roundedUp : ℕ → ℕ → ℕ

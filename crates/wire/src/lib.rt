@@ -1,6 +1,4 @@
-// The messages of a frame: reading one, checking a whole frame, writing one (document 01, "Octets of a frame").
-pub mod write;
-
+// The messages of a frame: reading one, checking a whole frame (document 01, "Octets of a frame").
 ghost use mathlib.Core.Path.{_≡_};
 ghost use Prim.Native.Nat.{_+_, _≤_, _<_};
 ghost use lib.ListN.{length, drop};

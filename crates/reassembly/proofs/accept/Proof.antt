@@ -2,8 +2,9 @@
 use mathlib.Core.Path.{refl}
 use native.Mathlib.Omega.{arith}
 use lib.ListN.{length-set}
-use Rattle.reassembly.proofs.Kept.{Shaped}
-use Rattle.reassembly.specs.Row.{indexesOf, lengthsOf, withPiece, complete, bundleOf, settle, deliveryOf, written}
+use Rattle.row.proofs.Shaped.{Shaped}
+use Rattle.row.specs.Row.{indexesOf, lengthsOf}
+use Rattle.reassembly.specs.Rules.{withPiece, complete, bundleOf, settle, deliveryOf, written}
 use borrow.Author.Needs.{needs}
 use Rattle.reassembly.proofs.accept.Statement.{statement}
 use Rattle.reassembly.proofs.accept.Tie as tie

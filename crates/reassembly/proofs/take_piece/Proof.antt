@@ -2,10 +2,13 @@
 use mathlib.Core.Path.{_≡_, refl, sym, _∙_}
 use native.Mathlib.Omega.{arith}
 use lib.ListN.{length}
-use Rattle.reassembly.proofs.Sound.{sound-facts}
-use Rattle.reassembly.proofs.Judging.{Accepted, accepted}
-use Rattle.reassembly.proofs.Kept.{Shaped, Joinable, joinable}
-use Rattle.reassembly.specs.Row.{sumOf, lengthsOf, withPiece, carryOut, pieceStep, deliveryOf, written}
+use Rattle.pieces.specs.Pieces.{sumOf}
+use Rattle.row.proofs.Sound.{sound-facts}
+use Rattle.row.proofs.Judging.{Accepted, accepted}
+use Rattle.row.proofs.Shaped.{Shaped}
+use Rattle.row.specs.Row.{lengthsOf}
+use Rattle.reassembly.proofs.Kept.{Joinable, joinable}
+use Rattle.reassembly.specs.Rules.{withPiece, carryOut, pieceStep, deliveryOf, written}
 use borrow.Author.Needs.{needs}
 use Rattle.reassembly.proofs.take_piece.Statement.{statement}
 use Rattle.reassembly.proofs.take_piece.Tie as tie

@@ -1,7 +1,7 @@
 -- `receiver::admit` meets its contract.
 use borrow.Author.Needs.{needs}
 use Rattle.receiver.specs.Receive.{refusal}
-use Rattle.receiver.specs.Run.{admission}
+use Rattle.receiver.specs.Steps.{admission}
 use Rattle.receiver.proofs.admit.Statement.{statement}
 use Rattle.receiver.proofs.admit.Tie as tie
 

@@ -1,7 +1,7 @@
 -- `receiver::admitted` meets its contract.
 use borrow.Author.Needs.{needs}
 use Rattle.receiver.specs.Receive.{frameRefusal}
-use Rattle.receiver.specs.Run.{admission}
+use Rattle.receiver.specs.Steps.{admission}
 use Rattle.receiver.proofs.admitted.Statement.{statement}
 use Rattle.receiver.proofs.admitted.Tie as tie
 

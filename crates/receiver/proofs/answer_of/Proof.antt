@@ -1,6 +1,6 @@
 -- `receiver::answer_of` meets its contract.
 use borrow.Author.Tests.{eq-eqb, ne-eqb}
-use Rattle.receiver.specs.Run.{answerOf}
+use Rattle.receiver.specs.Steps.{answerOf}
 use Rattle.receiver.proofs.answer_of.Statement.{statement}
 use Rattle.receiver.proofs.answer_of.Tie as tie
 

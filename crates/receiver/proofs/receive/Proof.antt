@@ -3,10 +3,11 @@ use mathlib.Core.Path.{sym, ap, _∙_}
 use native.Mathlib.Omega.{arith}
 use borrow.Author.Needs.{needs}
 use Rattle.window.specs.Window.{windowSize}
-use Rattle.receiver.specs.Message.{Board, draft02}
-use Rattle.receiver.specs.Receive.{refusal, messagesFrom}
-use Rattle.receiver.specs.declared.Origin.the-variants.{Whole}
-use Rattle.receiver.proofs.Looping.{replyOf, one-bundle}
+use Rattle.rows.specs.Message.{Board, draft02}
+use Rattle.receiver.specs.Receive.{refusal}
+use Rattle.rows.specs.Message.{messagesFrom}
+use Rattle.rows.specs.declared.Origin.the-variants.{Whole}
+use Rattle.receiver.proofs.Limit.{replyOf, one-bundle}
 use Rattle.receiver.proofs.Refusals.{denied, admitted, refused, treated, admits}
 use Rattle.receiver.proofs.receive.Statement.{statement}
 use Rattle.receiver.proofs.receive.Tie as tie

@@ -1,6 +1,6 @@
 -- `receiver::start` meets its contract.
 use borrow.Author.Needs.{needs}
-use Rattle.receiver.specs.State.{fresh}
+use Rattle.rows.specs.State.{fresh}
 use Rattle.receiver.proofs.start.Statement.{statement}
 use Rattle.receiver.proofs.start.Tie as tie
 

@@ -2,7 +2,8 @@
 use mathlib.Core.Path.{sym, _∙_}
 use native.Mathlib.Omega.{arith}
 use borrow.Author.Tests.{eq-eqb, ne-eqb, not-false}
-use Rattle.sender.specs.Answers.{reply, unless}
+use Rattle.framing.specs.Answers.{reply}
+use Rattle.sender.specs.Answers.{unless}
 use Rattle.sender.specs.Calls.{cancelCases, cancel}
 use Rattle.sender.proofs.Facts.{in-range, in-transfer}
 use borrow.Author.Needs.{needs}

@@ -5,8 +5,9 @@ use native.Mathlib.Omega.{arith}
 use lib.ListN.{length}
 use borrow.Author.Tests.{eq-eqb, ne-eqb, eqb-false, ltb-false, not-false}
 use Rattle.octets.proofs.Flags.{neither}
-use Rattle.sender.specs.Sound.{bundleMax}
-use Rattle.sender.specs.Answers.{reply, unless}
+use Rattle.framing.specs.Placing.{bundleMax}
+use Rattle.framing.specs.Answers.{reply}
+use Rattle.sender.specs.Answers.{unless}
 use Rattle.sender.specs.Calls.{placeCases, place}
 use Rattle.sender.proofs.Facts.{in-range, lies-within}
 use borrow.Author.Needs.{needs}

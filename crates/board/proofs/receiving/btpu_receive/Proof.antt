@@ -1,7 +1,8 @@
 -- `board::receiving::btpu_receive` meets its contract.
 
 use mathlib.Core.Path.{sym, _∙_}
-use Rattle.board.proofs.ReceiverCalls.{image-full, image-refused, image-received}
+use Rattle.images.proofs.Rows.{image-full}
+use Rattle.board.proofs.ReceiverCalls.{image-refused, image-received}
 use borrow.Author.Needs.{needs}
 use Rattle.board.proofs.receiving.btpu_receive.Statement.{statement}
 use Rattle.board.proofs.receiving.btpu_receive.Tie as tie

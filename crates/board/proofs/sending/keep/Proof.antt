@@ -1,5 +1,5 @@
 -- `board::sending::keep` meets its contract.
-use Rattle.sender.specs.Answers.{reply}
+use Rattle.framing.specs.Answers.{reply}
 use Rattle.board.specs.Sender.{kept}
 use borrow.Author.Needs.{needs}
 use Rattle.board.proofs.sending.keep.Statement.{statement}

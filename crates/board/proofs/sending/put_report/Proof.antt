@@ -1,5 +1,5 @@
 -- `board::sending::put_report` meets its contract.
-use Rattle.sender.specs.Answers.{reply}
+use Rattle.framing.specs.Answers.{reply}
 use Rattle.board.specs.Sender.{report}
 use borrow.Author.Needs.{needs}
 use Rattle.board.proofs.sending.put_report.Statement.{statement}

@@ -1,5 +1,5 @@
 -- `board::sending::status` meets its contract.
-use Rattle.sender.specs.Answers.{reply}
+use Rattle.framing.specs.Answers.{reply}
 use Rattle.board.specs.Sender.{status}
 use borrow.Author.Needs.{needs}
 use Rattle.board.proofs.sending.status.Statement.{statement}

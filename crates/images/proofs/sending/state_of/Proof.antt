@@ -1,0 +1,63 @@
+-- `images::sending::state_of` meets its contract.
+use Rattle.images.specs.Sender.{stateOf}
+use borrow.Author.Needs.{needs}
+use Rattle.images.proofs.sending.state_of.Statement.{statement}
+use Rattle.images.proofs.sending.state_of.Tie as tie
+
+number16-at-requires : tie.Need-number16-at-requires
+number16-at-requires c κs = search needs
+
+wide-requires : tie.Need-wide-requires
+wide-requires c κs = search needs
+
+number16-at-requires-2 : tie.Need-number16-at-requires-2
+number16-at-requires-2 c κs = search needs
+
+wide-requires-2 : tie.Need-wide-requires-2
+wide-requires-2 c κs = search needs
+
+number-at-requires : tie.Need-number-at-requires
+number-at-requires c κs = search needs
+
+shared-slice-read-t8 : tie.Need-shared-slice-read-t8
+shared-slice-read-t8 c = search needs
+
+number-at-requires-2 : tie.Need-number-at-requires-2
+number-at-requires-2 c κs = search needs
+
+number16-at-requires-3 : tie.Need-number16-at-requires-3
+number16-at-requires-3 c κs = search needs
+
+wide-requires-3 : tie.Need-wide-requires-3
+wide-requires-3 c κs = search needs
+
+number16-at-requires-4 : tie.Need-number16-at-requires-4
+number16-at-requires-4 c κs = search needs
+
+wide-requires-4 : tie.Need-wide-requires-4
+wide-requires-4 c κs = search needs
+
+number-at-requires-3 : tie.Need-number-at-requires-3
+number-at-requires-3 c κs = search needs
+
+returns : tie.Need-returns
+unfolding stateOf
+returns c = rw (c .before .before .before .before .before .before .before .before .before .before .wide .ensures, c .before .before .before .before .before .before .before .before .before .before .before .number16-at .ensures, c .before .before .before .before .before .before .before .before .wide2 .ensures, c .before .before .before .before .before .before .before .before .before .number16-at2 .ensures, c .before .before .before .before .before .before .before .number-at .ensures, c .before .before .before .before .before .number-at2 .ensures, c .before .before .before .wide3 .ensures, c .before .before .before .before .number16-at3 .ensures, c .before .wide4 .ensures, c .before .before .number16-at4 .ensures, c .number-at3 .ensures)
+
+pub state-of-spec : {M : Type 1} → statement M
+state-of-spec =
+    tie.close
+    (tie.spec
+    number16-at-requires
+    wide-requires
+    number16-at-requires-2
+    wide-requires-2
+    number-at-requires
+    shared-slice-read-t8
+    number-at-requires-2
+    number16-at-requires-3
+    wide-requires-3
+    number16-at-requires-4
+    wide-requires-4
+    number-at-requires-3
+    returns)

@@ -1,0 +1,221 @@
+// The receiver's state as an image.
+use row::Phase;
+use row::Row;
+use rows::State;
+ghost use mathlib.Core.Path.{_≡_};
+ghost use mathlib.Core.List.{map};
+ghost use Prim.Native.Nat.{_+_, _*_, _≤_};
+ghost use lib.ListN.{length, take, drop};
+ghost use Rattle.octets.specs.Octets.{put};
+ghost use Rattle.window.specs.Window.{windowSize};
+ghost use Rattle.images.specs.Receiver as Spec;
+ghost use Rattle.images.specs.Receiver.{imageSize, rowSize};
+
+pub const IMAGE_SIZE: usize = 3144;
+
+// The octets of a row, and where the first row starts.
+const ROW_SIZE: usize = 196;
+
+const ROWS: usize = 8;
+
+fn phase_of(code: u8) -> Phase
+    ensures { λ r. ⌜ r ≡ Spec.phaseOf code ⌝ }
+{
+    if code == 1 {
+        return Phase::Open;
+    }
+    if code == 2 {
+        return Phase::Done;
+    }
+    if code == 3 {
+        return Phase::Cancelled;
+    }
+    if code == 4 {
+        return Phase::Abandoned;
+    }
+    Phase::Free
+}
+
+fn phase_code(phase: Phase) -> u8
+    ensures { λ r. ⌜ r ≡ Spec.phaseCode phase ⌝ }
+{
+    match phase {
+        Phase::Free => 0,
+        Phase::Open => 1,
+        Phase::Done => 2,
+        Phase::Cancelled => 3,
+        Phase::Abandoned => 4,
+    }
+}
+
+pub fn flag(b: bool) -> u8
+    ensures { λ r. ⌜ r ≡ Spec.flag b ⌝ }
+{
+    if b {
+        return 1;
+    }
+    0
+}
+
+fn indexes_of(image: &[u8], at: usize) -> [u8; 64]
+    requires { ⌜ at + 64 ≤ length (now image) ⌝ }
+    ensures { λ r. ⌜ r ≡ take 64 (drop at (now (image .entry))) ⌝ }
+{
+    let end = at + 64;
+    let mut indexes = [0u8; 64];
+    octets::copy_into(&mut indexes, 0, &image[at..end]);
+    indexes
+}
+
+// Numbers of two octets, low octet first: the order in which this machine reads two octets at once.
+fn pairs_of(image: &[u8], at: usize) -> [u16; 64]
+    requires { ⌜ at + 128 ≤ length (now image) ⌝ }
+    ensures { λ r. ⌜ map Spec.exchange r ≡ Spec.pairs 64 (drop at (now (image .entry))) ⌝ }
+{
+    let mut pairs = [0u16; 64];
+    let mut j = 0;
+    while j < 64 {
+        let from = at + j * 2;
+        pairs[j] = octets::octet16(image[from + 1]) * 256 + octets::octet16(image[from]);
+        j += 1;
+    }
+    pairs
+}
+
+// The two octets of a number exchanged.
+fn exchange(x: u16) -> u16
+    ensures { λ r. ⌜ r ≡ Spec.exchange x ⌝ }
+{
+    x % 256 * 256 + x / 256
+}
+
+fn exchanged(pairs: [u16; 64]) -> [u16; 64]
+    ensures { λ r. ⌜ r ≡ map Spec.exchange pairs ⌝ }
+{
+    let mut next = pairs;
+    let mut j = 0;
+    while j < 64 {
+        next[j] = exchange(next[j]);
+        j += 1;
+    }
+    next
+}
+
+// The compiler makes a copy and a vector loop of this; a single loop it reads octet by octet.
+fn lengths_of(image: &[u8], at: usize) -> [u16; 64]
+    requires { ⌜ at + 128 ≤ length (now image) ⌝ }
+    ensures { λ r. ⌜ r ≡ Spec.pairs 64 (drop at (now (image .entry))) ⌝ }
+{
+    exchanged(pairs_of(image, at))
+}
+
+// The row whose octets start at `at`.
+fn row_of(image: &[u8], at: usize) -> Row
+    requires { ⌜ at + rowSize ≤ length (now image) ⌝ }
+    ensures { λ r. ⌜ r ≡ Spec.rowOf (drop at (now (image .entry))) ⌝ }
+{
+    Row {
+        phase: phase_of(image[at]),
+        known: image[at + 1] == 1,
+        last: image[at + 2],
+        held: octets::octet_size(image[at + 3]),
+        indexes: indexes_of(image, at + 4),
+        lengths: lengths_of(image, at + 68),
+    }
+}
+
+fn rows_of(image: &[u8]) -> [Row; 16]
+    requires { ⌜ length (now image) ≡ imageSize ⌝ }
+    ensures { λ r. ⌜ r ≡ Spec.rowsOf windowSize (drop 8 (now (image .entry))) ⌝ }
+{
+    let free = row::empty_row(Phase::Free);
+    let mut rows = [free; 16];
+    let mut k = 0;
+    while k < 16 {
+        rows[k] = row_of(image, ROWS + k * ROW_SIZE);
+        k += 1;
+    }
+    rows
+}
+
+fn are_rows(image: &[u8]) -> bool
+    requires { ⌜ length (now image) ≡ imageSize ⌝ }
+    ensures { λ r. ⌜ r ≡ Spec.areRows windowSize (drop 8 (now (image .entry))) ⌝ }
+{
+    let mut good = true;
+    let mut k = 0;
+    while k < 16 {
+        let at = ROWS + k * ROW_SIZE;
+        good = good & ((image[at] <= 4) & (image[at + 1] <= 1));
+        k += 1;
+    }
+    good
+}
+
+pub fn is_image(image: &[u8]) -> bool
+    ensures { λ r. ⌜ r ≡ Spec.isImage (now (image .entry)) ⌝ }
+{
+    if image.len() == IMAGE_SIZE {
+        let head = (image[0] <= 1) & (image[1] == 0) & (image[2] == 0) & (image[3] == 0);
+        return head & are_rows(image);
+    }
+    false
+}
+
+pub fn state_of(image: &[u8]) -> State
+    requires { ⌜ length (now image) ≡ imageSize ⌝ }
+    ensures { λ r. ⌜ r ≡ Spec.stateOf (now (image .entry)) ⌝ }
+{
+    State {
+        present: image[0] == 1,
+        greatest: octets::number_at(image, 4),
+        rows: rows_of(image),
+    }
+}
+
+fn put_lengths(image: &mut [u8], at: usize, lengths: &[u16])
+    requires { ⌜ at + 2 * length (now lengths) ≤ length (now image) ⌝ }
+    ensures { λ _. ⌜ now (image .exit) ≡ put (now (image .entry)) at (Spec.spread (now (lengths .entry))) ⌝ }
+{
+    let mut j = 0;
+    while j < lengths.len() {
+        octets::put_number16(image, at + j * 2, lengths[j]);
+        j += 1;
+    }
+}
+
+fn put_row(image: &mut [u8], at: usize, row: Row)
+    requires { ⌜ at + rowSize ≤ length (now image) ⌝ }
+    ensures { λ _. ⌜ (now (image .exit) ≡ put (now (image .entry)) at (Spec.rowImage row)) × (length (Spec.rowImage row) ≡ rowSize) ⌝ }
+{
+    let phase = row.phase;
+    let code = phase_code(phase);
+    let known = flag(row.known);
+    let held = (row.held % 256) as u8;
+    octets::put_four(image, at, [code, known, row.last, held]);
+    octets::copy_into(image, at + 4, &row.indexes[..]);
+    put_lengths(image, at + 68, &row.lengths[..]);
+}
+
+fn put_rows(image: &mut [u8], rows: [Row; 16])
+    requires { ⌜ length (now image) ≡ imageSize ⌝ }
+    ensures { λ _. ⌜ (now (image .exit) ≡ put (now (image .entry)) 8 (Spec.rowsImage rows)) × (length (Spec.rowsImage rows) ≡ windowSize * rowSize) ⌝ }
+{
+    let mut k = 0;
+    while k < 16 {
+        let row = rows[k];
+        put_row(image, ROWS + k * ROW_SIZE, row);
+        k += 1;
+    }
+}
+
+pub fn put_state(image: &mut [u8], state: State)
+    requires { ⌜ length (now image) ≡ imageSize ⌝ }
+    ensures { λ _. ⌜ now (image .exit) ≡ Spec.imageOf state ⌝ }
+{
+    let present = flag(state.present);
+    let rows = state.rows;
+    octets::put_four(image, 0, [present, 0, 0, 0]);
+    octets::put_number(image, 4, state.greatest);
+    put_rows(image, rows);
+}

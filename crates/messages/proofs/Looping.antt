@@ -1,0 +1,265 @@
+-- The message loop: what it keeps.
+use mathlib.Core.Bool.{Bool, true, false, _&&_}
+use mathlib.Core.List.{List, [], _∷_}
+use mathlib.Core.Logic.{_⊎_, inl, inr}
+use mathlib.Core.Option.{Option, none, some}
+use mathlib.Core.Path.{_≡_, refl, sym, _∙_, subst}
+use Prim.Native.Nat.{ℕ, _+_, _-_, _^_, _≤_, _<_}
+use native.Mathlib.Omega.{arith}
+use lib.Dec.{ltb, leb}
+use lib.ListN.{length, getD, take, drop, set, length-take, length-drop}
+use borrow.Author.Tests.{ltb-true, ltb-false, leb-true}
+use Rattle.octets.proofs.Flags.{bool, both}
+use Rattle.octets.proofs.Put.{length-put}
+use Rattle.wire.specs.Frame.{Item, Scan, row, items, scanned, checked, from}
+use Rattle.wire.specs.Layout.{read, message, fitting}
+use Rattle.wire.specs.Message.{answer}
+use Rattle.wire.specs.declared.Checked.the-variants.{Accepted}
+use Rattle.wire.specs.declared.Fault.{Fault}
+use Rattle.wire.specs.declared.Reading.the-variants.{Good, Bad}
+use Rattle.wire.specs.declared.Kind.{Kind}
+use Rattle.wire.specs.declared.Kind.the-variants.{Skipped}
+use Rattle.wire.specs.declared.Span.{Span}
+use Rattle.wire.proofs.Frames.{scanAt}
+use Rattle.wire.proofs.Items.{Next}
+use Rattle.wire.proofs.Items as Items
+use Rattle.wire.proofs.Places.{taken, resume}
+use Rattle.wire.proofs.Spans.{Located, located, sized}
+use Rattle.window.specs.Window.{windowSize, sixteen}
+use Rattle.pieces.specs.Pieces.{bundleMax}
+use Rattle.row.specs.Row.{emptyRow, soundRow}
+use Rattle.reassembly.specs.Rules.{deliveryOf}
+use Rattle.reassembly.specs.Rules as Rules
+use Rattle.reassembly.specs.declared.Delivery.{Delivery}
+use Rattle.reassembly.specs.declared.Delivery.the-variants.{Nothing, Bundle}
+use Rattle.row.specs.declared.Phase.the-variants.{Free}
+use Rattle.row.specs.declared.Row.{Row}
+use Rattle.reassembly.specs.declared.Taken.{Taken}
+use Rattle.row.proofs.Shaped.{Shaped}
+use Rattle.rows.specs.Message.{draft02, Board, Outcome, handedOf, cellAt, step}
+use Rattle.rows.specs.Message.{messagesFrom}
+use Rattle.messages.specs.Run.{Run, admits, rowStep, writtenAt, Lands, size, progressed, advanced, roomy, run}
+use Rattle.rows.specs.Visit.{visitOf}
+use Rattle.rows.specs.declared.Origin.{Origin}
+use Rattle.rows.specs.declared.Origin.the-variants.{Whole}
+use Rattle.messages.specs.declared.Progress.{Progress}
+use Rattle.rows.specs.declared.Visit.{Visit}
+use Rattle.messages.proofs.Visits.{rowsFor, landed, visited, outcome, landed-step, row-fits, Visiting, visiting, visit-slot, visit-admits, Sound, visited-sound, cell-full, landed-sound}
+
+-- the messages that the loop has yet to treat
+abbrev pub left : List ℕ → Run → List Item
+left frame p = items (scanAt read frame (p .progress .next))
+
+-- p is how far the run from p₀ over the messages is came, in an output of a size
+pub record Going (limit : ℕ) (frame : List ℕ) (p₀ : Run) (is : List Item) (size : ℕ) (p : Run) : Type 0 where
+  pub same : run windowSize false limit p₀ is ≡ run windowSize false limit p (left frame p)
+  pub here : scanAt read frame (p .progress .next) ≡ row (left frame p)
+  pub ready : Sound windowSize (p .board)
+  pub low : p .board .state .greatest < 2 ^ 32
+  pub output : length (p .output) ≡ size
+  pub used : p .progress .used ≤ size
+
+-- a bundle goes behind those that are out
+advanced-by : (p : Run) (b : Board) (next : ℕ) (origin : Origin) (o : Option (List ℕ))
+    → advanced p b next (handedOf origin o) ≡ record { board = b; output = writtenAt (p .progress .used) o (p .output); progress = progressed (p .progress) (deliveryOf o) next origin }
+unfolding advanced handedOf writtenAt progressed deliveryOf
+advanced-by p b next origin none = refl
+advanced-by p b next origin (some x) = refl
+
+pub progressed-next : (p : Progress) (d : Delivery) (next : ℕ) (origin : Origin) → progressed p d next origin .next ≡ next
+unfolding progressed
+progressed-next p Nothing next origin = refl
+progressed-next p (Bundle n) next origin = refl
+
+-- the output keeps its length, and the octets used stay within it
+written-length : (used : ℕ) (o : Option (List ℕ)) (output : List ℕ) → ((x : List ℕ) → o ≡ some x → used + length x ≤ length output) → length (writtenAt used o output) ≡ length output
+unfolding writtenAt
+written-length used none output fits = refl
+written-length used (some x) output fits = length-put output used x (fits x refl)
+
+progressed-used : (p : Progress) (o : Option (List ℕ)) (next : ℕ) (origin : Origin) (n : ℕ) → p .used ≤ n → ((x : List ℕ) → o ≡ some x → p .used + length x ≤ n) → progressed p (deliveryOf o) next origin .used ≤ n
+unfolding progressed deliveryOf
+progressed-used p none next origin n h fits = h
+progressed-used p (some x) next origin n h fits = fits x refl
+
+pub size-fits : (o : Option (List ℕ)) (n : ℕ) → ((x : List ℕ) → o ≡ some x → length x ≤ n) → size (deliveryOf o) ≤ n
+unfolding deliveryOf
+size-fits none n fits = omega arith
+size-fits (some x) n fits = fits x refl
+
+items-row : {s : Scan} (is : List Item) → s ≡ row is → items s ≡ is
+unfolding items
+items-row is e = rw e
+
+skip-step : (w : ℕ) (falling : Bool) (b : Board) (k : Kind) (content : List ℕ) → k ≡ Skipped → step w falling b (message k content) ≡ record { board = b; handed = none }
+unfolding step message
+skip-step w falling b k content e = rw e
+
+-- A turn of the loop: the message m is read, and goes where v says.
+module _ (limit : ℕ) (frame : List ℕ) (p₀ : Run) (is₀ : List Item) (n : ℕ) (p : Run) (G : Going limit frame p₀ is₀ n p)
+    (test : (ltb (p .progress .next) (length frame) && roomy (p .progress) limit (length (p .output))) ≡ true)
+    (m : Span) (told : answer (p .progress .next) (read (drop (p .progress .next) frame)) ≡ Good m) where
+  abbrev b : Board
+  b = p .board
+
+  abbrev at : ℕ
+  at = p .progress .next
+
+  abbrev pub content : List ℕ
+  content = take (m .end - m .start) (drop (m .start) frame)
+
+  abbrev pub v : Visit
+  v = visitOf windowSize (b .state .present) (b .state .greatest) (message (m .kind) content)
+
+  abbrev o : Rules.Outcome
+  o = outcome windowSize false b v content
+
+  tests : (ltb at (length frame) ≡ true) × (roomy (p .progress) limit (length (p .output)) ≡ true)
+  tests = both (ltb at (length frame)) (roomy (p .progress) limit (length (p .output))) test
+
+  rooms : (ltb (p .progress .count) limit ≡ true) × (leb bundleMax (length (p .output) - p .progress .used) ≡ true)
+  rooms = both (ltb (p .progress .count) limit) (leb bundleMax (length (p .output) - p .progress .used)) (tests .1)
+
+  pub at< : at < length frame
+  at< = ltb-true at (length frame) (tests .0)
+
+  pub count< : p .progress .count < limit
+  count< = ltb-true (p .progress .count) limit (rooms .0)
+
+  pub room : p .progress .used + bundleMax ≤ length (p .output)
+  room = omega (arith, leb-true bundleMax (length (p .output) - p .progress .used) (rooms .1), G .used, G .output)
+
+  pub place : Located frame at m
+  place = located frame at (omega (arith, at<)) m told
+
+  follows : Next frame at m (left frame p)
+  follows = Items.next frame at (left frame p) (G .here) at< m told
+
+  -- a message that is passed over
+  pub passed : m .kind ≡ Skipped → Going limit frame p₀ is₀ n (record { board = b; output = p .output; progress = progressed (p .progress) Nothing (m .end) Whole })
+  unfolding run advanced progressed
+  passed e =
+      let r = items-row (follows .rest) (follows .then) in
+      record {
+        same = rw r (G .same ∙ rw (follows .first, tests .1, skip-step windowSize false b (m .kind) content e));
+        here = rw r (follows .then);
+        ready = G .ready;
+        low = G .low;
+        output = G .output;
+        used = G .used;
+      }
+
+  pub visits : Visiting windowSize (b .state .present) (b .state .greatest) v
+  visits = visiting windowSize sixteen (b .state .present) (b .state .greatest) (message (m .kind) content)
+
+  pub slot< : v .slot < windowSize
+  slot< = visit-slot windowSize sixteen (b .state .present) (b .state .greatest) visits
+
+  pub length-content : length content ≡ m .end - m .start
+  length-content = rw (length-take, length-drop) (omega (arith, place .ordered, place .within))
+
+  pub fits : fitting (m .kind) (length content) ≡ true
+  fits = rw length-content (place .fits)
+
+  pub found-sound : soundRow (visited windowSize false b v) ≡ true
+  found-sound = visited-sound windowSize sixteen false b (G .ready) v slot<
+
+  pub cell-long : length (cellAt (b .pool) (v .slot)) ≡ bundleMax
+  cell-long = cell-full windowSize sixteen false b (G .ready) v slot<
+
+  module _ (small : length frame ≤ bundleMax) where
+    pub admit : admits (v .act) (length content) ≡ true
+    admit = visit-admits windowSize sixteen (b .state .present) (b .state .greatest) (m .kind) content fits (omega (arith, length-content, place .ordered, place .within))
+
+    module _ (shaped : Shaped (visited windowSize false b v)) where
+      pub bundle-fits : (x : List ℕ) → o .bundle ≡ some x → length x ≤ bundleMax
+      bundle-fits = row-fits false content (visited windowSize false b v) (cellAt (b .pool) (v .slot)) (v .act) admit found-sound shaped cell-long
+
+      module _ (low : v .greatest < 2 ^ 32) where
+        abbrev done : Outcome
+        done = landed windowSize false b v o
+
+        abbrev next : Run
+        next = record { board = done .board; output = writtenAt (p .progress .used) (o .bundle) (p .output); progress = progressed (p .progress) (deliveryOf (o .bundle)) (m .end) (v .origin) }
+
+        stepped : done ≡ step windowSize false b (message (m .kind) content)
+        stepped = landed-step windowSize sixteen false b (G .ready .rows) (G .ready .pool) (G .low) (m .kind) content low
+
+        same : run windowSize false limit p₀ is₀ ≡ run windowSize false limit next (follows .rest)
+        unfolding run
+        same = G .same ∙ rw (follows .first, tests .1, ← stepped, advanced-by p (done .board) (m .end) (v .origin) (o .bundle))
+
+        goes-on : Going limit frame p₀ is₀ n next
+        unfolding progressed
+        goes-on =
+            let e = progressed-next (p .progress) (deliveryOf (o .bundle)) (m .end) (v .origin) in
+            let r = items-row (follows .rest) (follows .then) in
+            let room′ : (x : List ℕ) → o .bundle ≡ some x → p .progress .used + length x ≤ length (p .output) = λ x q. omega (arith, bundle-fits x q, room) in
+            record {
+              same = rw (e, r) same;
+              here = rw (e, r) (follows .then);
+              ready = landed-sound windowSize sixteen false b (G .ready) content visits shaped;
+              low = low;
+              output = written-length (p .progress .used) (o .bundle) (p .output) room′ ∙ G .output;
+              used = progressed-used (p .progress) (o .bundle) (m .end) (v .origin) n (G .used) λ x q. omega (arith, room′ x q, G .output);
+            }
+
+    -- what the code makes of a turn: rows, row, pool, output and progress as they are then
+    abbrev Turned : Visit → Type 0
+    Turned x =
+        (rows : List Row) → rows ≡ rowsFor windowSize false b x
+        → (r : Row) → r ≡ getD rows (x .slot) (emptyRow Free) → Shaped r → x .greatest < 2 ^ 32
+        → (t : Taken) (pool output : List ℕ) → Lands (rowStep false (x .act) content r (cellAt (b .pool) (x .slot))) (x .slot) (b .pool) (p .progress .used) (p .output) t pool output
+        → (progress : Progress) → progress ≡ progressed (p .progress) (t .delivery) (m .end) (x .origin)
+        → Going limit frame p₀ is₀ n
+        (record {
+          board = record { state = record { present = x .present; greatest = x .greatest; rows = set rows (x .slot) (t .row) }; pool = pool };
+          output = output;
+          progress = progress;
+        })
+
+    turned-here : Turned v
+    turned-here rows er r ef z low t pool output ans progress ep =
+        let re : r ≡ visited windowSize false b v = ef ∙ rw er in
+        let shaped : Shaped (visited windowSize false b v) = subst Shaped re z in
+        let a : Lands o (v .slot) (b .pool) (p .progress .used) (p .output) t pool output = rw re at ans in
+        let came : progress ≡ progressed (p .progress) (deliveryOf (o .bundle)) (m .end) (v .origin) = ep ∙ rw (a .delivery) in
+        rw (er, a .row, a .pool, a .output, came) (goes-on shaped low)
+
+    pub turned : (x : Visit) → x ≡ v → Turned x
+    turned x e = subst Turned (sym e) turned-here
+
+-- the loop begins
+pub begins : (limit : ℕ) (frame : List ℕ) (p : Run) → checked read frame (p .progress .next) ≡ Accepted → Sound windowSize (p .board) → p .board .state .greatest < 2 ^ 32 → p .progress .used ≤ length (p .output)
+    → Going limit frame p (messagesFrom draft02 frame (p .progress .next)) (length (p .output)) p
+unfolding messagesFrom
+begins limit frame p accepted ready low used =
+    let place : ℕ = p .progress .next in
+    let t = taken read sized frame place accepted in
+    let here : scanAt read frame place ≡ row (from place (t .items)) = resume read sized frame place (t .items) (t .whole) (t .good-place) in
+    let left′ : items (scanAt read frame place) ≡ from place (t .items) = items-row (from place (t .items)) here in
+    let all : items (scanned read frame) ≡ t .items = items-row (t .items) (t .whole) in
+    record { same = rw (all, left′); here = rw left′ here; ready = ready; low = low; output = refl; used = used }
+
+-- the loop ends: no message is left, or the limits are reached
+stops : (limit : ℕ) (p : Run) (is : List Item) → roomy (p .progress) limit (length (p .output)) ≡ false → run windowSize false limit p is ≡ p
+unfolding run
+stops limit p [] e = refl
+stops limit p (i ∷ is) e = rw e
+
+pub ends : (limit : ℕ) (frame : List ℕ) (p₀ : Run) (is : List Item) (n : ℕ) (p : Run) → Going limit frame p₀ is n p
+    → (ltb (p .progress .next) (length frame) && roomy (p .progress) limit (length (p .output))) ≡ false → p ≡ run windowSize false limit p₀ is
+unfolding run
+ends limit frame p₀ is n p G test = sym (G .same ∙ go (bool (ltb (p .progress .next) (length frame))))
+  where
+    go : (ltb (p .progress .next) (length frame) ≡ true) ⊎ (ltb (p .progress .next) (length frame) ≡ false) → run windowSize false limit p (left frame p) ≡ p
+    go (inl e) = stops limit p (left frame p) (rw e at test)
+    go (inr e) = rw (Items.finished frame (p .progress .next) (left frame p) (G .here) (ltb-false (p .progress .next) (length frame) e))
+
+-- no message of an accepted frame is bad
+pub never-bad : {A : Type 0} (limit : ℕ) (frame : List ℕ) (p₀ : Run) (is : List Item) (n : ℕ) (p : Run) → Going limit frame p₀ is n p
+    → (ltb (p .progress .next) (length frame) && roomy (p .progress) limit (length (p .output))) ≡ true
+    → (q : Fault) → answer (p .progress .next) (read (drop (p .progress .next) frame)) ≡ Bad q → A
+never-bad limit frame p₀ is n p G test q told =
+    Items.never frame (p .progress .next) (left frame p) (G .here)
+    (ltb-true _ _ (both (ltb (p .progress .next) (length frame)) (roomy (p .progress) limit (length (p .output))) test .0)) q told

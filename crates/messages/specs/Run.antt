@@ -1,0 +1,90 @@
+-- The message loop as the code runs it: with a limit on the bundles, which lie one behind another in the output. The laws that
+-- tie it to the receiving call are in proofs/.
+use mathlib.Core.Path.{_≡_}
+use mathlib.Core.Bool.{Bool, true, cond, _&&_}
+use mathlib.Core.Option.{Option, none, some}
+use mathlib.Core.List.{List, [], _∷_}
+use Prim.Native.Nat.{ℕ, _+_, _-_}
+use lib.ListN.{length, drop}
+use lib.Dec.{ltb, leb}
+use Rattle.octets.specs.Octets.{number, put}
+use Rattle.wire.specs.Frame.{Item}
+use Rattle.row.specs.declared.Row.{Row}
+use Rattle.reassembly.specs.declared.Delivery.{Delivery}
+use Rattle.reassembly.specs.declared.Delivery.the-variants.{Nothing, Bundle}
+use Rattle.reassembly.specs.Rules as Rules
+use Rattle.reassembly.specs.declared.Taken.{Taken}
+use Rattle.pieces.specs.Pieces.{bundleMax}
+use Rattle.reassembly.specs.Rules.{silent, pieceStep, cancelStep, deliveryOf}
+use Rattle.rows.specs.declared.Origin.{Origin}
+use Rattle.rows.specs.declared.Origin.the-variants.{Whole}
+use Rattle.rows.specs.declared.Act.{Act}
+use Rattle.rows.specs.declared.Act.the-variants.{Pass, HandOut, Piece, Cancel}
+use Rattle.messages.specs.declared.Progress.{Progress}
+use Rattle.messages.specs.declared.Ran.{Ran}
+use Rattle.rows.specs.Message.{Board, Handed, Outcome, putCell, step}
+
+-- a content of n octets is long enough for what is done with it, and no longer than a bundle
+abbrev pub admits : Act → ℕ → Bool
+admits Pass n = true
+admits HandOut n = leb n bundleMax
+admits (Piece ending) n = leb 8 n
+admits Cancel n = true
+
+-- what a message with a content does to its row
+unfoldable pub rowStep : Bool → Act → List ℕ → Row → List ℕ → Rules.Outcome
+rowStep falling Pass content r cell = silent r cell
+rowStep falling HandOut content r cell = record { row = r; cell = cell; bundle = some content }
+rowStep falling (Piece ending) content r cell = pieceStep falling ending (number (drop 4 content)) (drop 8 content) r cell
+rowStep falling Cancel content r cell = cancelStep r cell
+
+-- the output with a bundle, if there is one, behind the octets used
+unfoldable pub writtenAt : ℕ → Option (List ℕ) → List ℕ → List ℕ
+writtenAt used none output = output
+writtenAt used (some x) output = put output used x
+
+-- the code's answer, pool and output are those of a row's outcome
+pub record Lands (o : Rules.Outcome) (slot : ℕ) (pool₀ : List ℕ) (used : ℕ) (output₀ : List ℕ) (t : Taken) (pool₁ output₁ : List ℕ) : Type 0 where
+  pub row : t .row ≡ o .row
+  pub delivery : t .delivery ≡ deliveryOf (o .bundle)
+  pub pool : pool₁ ≡ putCell pool₀ slot (o .cell)
+  pub output : output₁ ≡ writtenAt used (o .bundle) output₀
+
+-- ---- the loop
+
+-- how far a run came, with the board and the output as they are then
+pub record Run : Type 0 where
+  pub board : Board
+  pub output : List ℕ
+  pub progress : Progress
+
+abbrev pub going : Board → List ℕ → Progress → Run
+going b output progress = record { board = b; output = output; progress = progress }
+
+-- as the code answers it
+abbrev pub ran : Ran → List ℕ → List ℕ → Run
+ran r pool output = record { board = record { state = r .state; pool = pool }; output = output; progress = r .progress }
+
+abbrev pub size : Delivery → ℕ
+size Nothing = 0
+size (Bundle n) = n
+
+-- a message was treated, and the next starts at `next`
+unfoldable pub progressed : Progress → Delivery → ℕ → Origin → Progress
+progressed p Nothing next origin = record { count = p .count; used = p .used; next = next; origin = p .origin }
+progressed p (Bundle n) next origin = record { count = p .count + 1; used = p .used + n; next = next; origin = origin }
+
+unfoldable pub advanced : Run → Board → ℕ → Option Handed → Run
+advanced p b next none = record { board = b; output = p .output; progress = progressed (p .progress) Nothing next Whole }
+advanced p b next (some h) = record { board = b; output = put (p .output) (p .progress .used) (h .octets); progress = progressed (p .progress) (Bundle (length (h .octets))) next (h .origin) }
+
+-- fewer bundles than the limit are out, and there is room for a bundle
+abbrev pub roomy : Progress → ℕ → ℕ → Bool
+roomy p limit size = ltb (p .count) limit && leb bundleMax (size - p .used)
+
+module _ (w : ℕ) (falling : Bool) (limit : ℕ) where
+  unfoldable pub run : Run → List Item → Run
+  run p [] = p
+  run p (i ∷ is) =
+      let o : Outcome = step w falling (p .board) (i .message) in
+      cond (roomy (p .progress) limit (length (p .output))) (run (advanced p (o .board) (i .next) (o .handed)) is) p

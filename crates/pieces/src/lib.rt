@@ -1,0 +1,210 @@
+// The pieces of one transfer in order of arrival, as a list of indexes and a list of lengths: searching, counting and joining them.
+ghost use mathlib.Core.Path.{_≡_};
+ghost use mathlib.Core.Bool.{false, _&&_};
+ghost use Prim.Native.Nat.{_+_, _*_, _≤_, _<_};
+ghost use lib.ListN.{length, take};
+ghost use Rattle.pieces.specs.Pieces as Spec;
+ghost use Rattle.pieces.specs.Pieces.{bundleMax};
+ghost use Rattle.pieces.specs.Search as Search;
+
+// Whether an index is held, and whether one above it is.
+pub struct Scan {
+    pub held: bool,
+    pub above: bool,
+}
+
+// Where a piece lies in the cell.
+pub struct Extent {
+    pub start: usize,
+    pub length: usize,
+}
+
+// A place among the pieces, and where the piece there starts in the cell.
+pub struct Mark {
+    pub place: usize,
+    pub start: usize,
+}
+
+// Looks for an index among the first `held`.
+pub fn scan_for(indexes: &[u8], held: usize, index: u8) -> Scan
+    requires { ⌜ held ≤ length (now indexes) ⌝ }
+    ensures { λ r. ⌜ Search.Scanned index (take held (now (indexes .entry))) r ⌝ }
+{
+    let mut found = false;
+    let mut above = false;
+    let mut k = 0;
+    while k < held {
+        let x = indexes[k];
+        found = found | (x == index);
+        above = above | (index < x);
+        k += 1;
+    }
+    Scan { held: found, above }
+}
+
+// The sum of the first `held` lengths.
+pub fn octets_held(lengths: &[u16], held: usize) -> usize
+    requires { ⌜ (held ≤ length (now lengths)) × (held ≤ 64) ⌝ }
+    ensures { λ r. ⌜ r ≡ Spec.sumOf (take held (now (lengths .entry))) ⌝ }
+{
+    let mut sum = 0u32;
+    let mut k = 0;
+    while k < held {
+        sum += lengths[k] as u32;
+        k += 1;
+    }
+    sum as usize
+}
+
+// Where a search for an index begins, and every later search for a greater one: past the piece at a place, if its index is lower.
+fn past_lower(indexes: &[u8], held: usize, place: usize, index: u8) -> usize
+    requires { ⌜ (held ≤ length (now indexes)) × (place ≤ held) ⌝ }
+    ensures { λ r. ⌜ r ≡ Search.pastLower held (now (indexes .entry)) place index ⌝ }
+{
+    if place < held {
+        if indexes[place] < index {
+            return place + 1;
+        }
+    }
+    place
+}
+
+// Whether every index from 0 to last is among the first `held`.
+fn all_held(indexes: &[u8], held: usize, last: u8) -> bool
+    requires { ⌜ (held ≤ length (now indexes)) × (last < 64) ⌝ }
+    ensures { λ r. ⌜ r ≡ Spec.hasAll (last + 1) (take held (now (indexes .entry))) ⌝ }
+{
+    let mut all = true;
+    let mut place = 0;
+    let mut i = 0u8;
+    'search: while i <= last {
+        place = past_lower(indexes, held, place, i);
+        let mut k = place;
+        loop {
+            if held <= k {
+                all = false;
+                break 'search;
+            }
+            if indexes[k] == i {
+                break;
+            }
+            k += 1;
+        }
+        i += 1;
+    }
+    all
+}
+
+// The mark from where the piece of an index is looked for.
+fn mark_past<'a>(indexes: &'a [u8], lengths: &'a [u16], held: usize, mark: Mark, index: u8) -> Mark
+    requires { ⌜ (held ≤ length (now indexes)) × (held ≤ length (now lengths)) × (held ≤ 64) × (mark .place ≤ held) × (mark .start ≤ 65535 * mark .place) ⌝ }
+    ensures { λ r. ⌜ r ≡ Search.markPast held (now (indexes .entry)) (now (lengths .entry)) mark index ⌝ }
+{
+    let from = mark.place;
+    let place = past_lower(indexes, held, from, index);
+    if from < place {
+        let n = lengths[from] as usize;
+        let start = mark.start + n;
+        return Mark { place, start };
+    }
+    mark
+}
+
+// Where the piece of an index lies in the cell, looked for from a mark on.
+fn find_piece<'a>(
+    indexes: &'a [u8],
+    lengths: &'a [u16],
+    held: usize,
+    mark: Mark,
+    index: u8,
+) -> Extent
+    requires { ⌜ (held ≤ length (now indexes)) × (held ≤ length (now lengths)) × (held ≤ 64) × (mark .place ≤ held) × (mark .start ≤ 65535 * mark .place) ⌝ }
+    ensures { λ r. ⌜ Search.Located index mark (take held (now (indexes .entry))) (take held (now (lengths .entry))) r ⌝ }
+{
+    let mut start = mark.start;
+    let mut k = mark.place;
+    while k < held {
+        let n = lengths[k] as usize;
+        if indexes[k] == index {
+            return Extent { start, length: n };
+        }
+        start += n;
+        k += 1;
+    }
+    Extent { start, length: 0 }
+}
+
+// Whether the entries from a count on are zero.
+pub fn zero_from<'a>(indexes: &'a [u8], lengths: &'a [u16], from: usize) -> bool
+    requires { ⌜ (length (now indexes) ≡ 64) × (length (now lengths) ≡ 64) × (from ≤ 64) ⌝ }
+    ensures { λ r. ⌜ r ≡ Spec.zeroFrom from (now (indexes .entry)) (now (lengths .entry)) ⌝ }
+{
+    let mut sum = 0u32;
+    let mut k = from;
+    while k < 64 {
+        sum += (indexes[k] as u32) + (lengths[k] as u32);
+        k += 1;
+    }
+    sum == 0
+}
+
+// Whether the first `held` indexes are at most 63 and differ.
+pub fn distinct(indexes: &[u8], held: usize) -> bool
+    requires { ⌜ held ≤ length (now indexes) ⌝ }
+    ensures { λ r. ⌜ r ≡ Spec.lowAndDistinct (take held (now (indexes .entry))) ⌝ }
+{
+    let mut seen = [false; 64];
+    let mut k = 0;
+    while k < held {
+        let x = indexes[k] as usize;
+        if 63 < x {
+            return false;
+        }
+        if seen[x] {
+            return false;
+        }
+        seen[x] = true;
+        k += 1;
+    }
+    true
+}
+
+// Joins the pieces from index 0 to last at the front of `out`, in rising order of index; answers the length.
+pub fn join<'a>(
+    indexes: &'a [u8],
+    lengths: &'a [u16],
+    held: usize,
+    last: u8,
+    cell: &[u8],
+    out: &mut [u8],
+) -> usize
+    requires { ⌜ (held ≤ length (now indexes)) × (held ≤ length (now lengths)) × (held ≤ 64) × (last < 64) ⌝ }
+    requires { ⌜ (Spec.sumOf (take held (now lengths)) ≤ length (now cell)) × (Spec.sumOf (take held (now lengths)) ≤ length (now out)) × (Spec.sumOf (take held (now lengths)) ≤ bundleMax) ⌝ }
+    ensures { λ r. ⌜ Spec.Joined (Spec.joined false (last + 1) (take held (now (indexes .entry))) (take held (now (lengths .entry))) (now (cell .entry))) (now (out .entry)) r (now (out .exit)) ⌝ }
+{
+    let mut mark = Mark { place: 0, start: 0 };
+    let mut at = 0;
+    let mut i = 0u8;
+    while i <= last {
+        mark = mark_past(indexes, lengths, held, mark, i);
+        let p = find_piece(indexes, lengths, held, mark, i);
+        let from = p.start;
+        let n = p.length;
+        let to = from + n;
+        octets::copy_into(out, at, &cell[from..to]);
+        at += n;
+        i += 1;
+    }
+    at
+}
+
+// Whether the final index is known and every index up to it is held; a count of the pieces below it rules that out without a search.
+pub fn is_complete(known: bool, last: u8, indexes: &[u8], held: usize) -> bool
+    requires { ⌜ (held ≤ length (now indexes)) × (last < 64) ⌝ }
+    ensures { λ r. ⌜ r ≡ (known && Spec.hasAll (last + 1) (take held (now (indexes .entry)))) ⌝ }
+{
+    if known & (octets::octet_size(last) < held) {
+        return all_held(indexes, held, last);
+    }
+    false
+}

@@ -1,0 +1,109 @@
+-- What one message does to a board: first its window, then the row of its number (document 01, "Transfer window" and "One row").
+-- Over the draft and over the window size w.
+use mathlib.Core.Bool.{Bool, true, false, cond}
+use mathlib.Core.Option.{Option, none, some}
+use mathlib.Core.List.{List, [], _∷_}
+use Prim.Native.Nat.{ℕ, suc, _*_}
+use lib.ListN.{getD, take, drop, set}
+use Rattle.octets.specs.Octets.{put}
+use Rattle.wire.specs.Frame.{Item, items, scanned, from}
+use Rattle.wire.specs.Message as Wire
+use Rattle.wire.specs.Message.{Message, skipped, bundle, segment, last, cancel}
+use Rattle.wire.specs.Layout as Layout
+use Rattle.window.specs.declared.Standing.{Standing}
+use Rattle.window.specs.declared.Standing.the-variants.{Inside, New, Outside}
+use Rattle.window.specs.Window.{standingOf, rowOf, enters}
+use Rattle.row.specs.declared.Row.{Row}
+use Rattle.row.specs.declared.Phase.the-variants.{Free}
+use Rattle.reassembly.specs.Rules as Rules
+use Rattle.pieces.specs.Pieces.{bundleMax}
+use Rattle.row.specs.Row.{emptyRow}
+use Rattle.reassembly.specs.Rules.{pieceStep, cancelStep}
+use Rattle.rows.specs.declared.State.{State}
+use Rattle.rows.specs.declared.Origin.{Origin}
+use Rattle.rows.specs.declared.Origin.the-variants.{Whole, Transfer}
+
+-- A draft of the protocol: how a message is read, and whether pieces are joined in falling order of index.
+pub record Draft : Type 0 where
+  pub read : List ℕ → Wire.Read
+  pub falling : Bool
+
+-- document 003, as document 01 narrows it
+abbrev pub draft02 : Draft
+draft02 = record { read = Layout.read; falling = false }
+
+-- the most octets of a frame
+abbrev pub frameMax : ℕ
+frameMax = 2048
+
+-- the messages of a frame from a place on
+unfoldable pub messagesFrom : Draft → List ℕ → ℕ → List Item
+messagesFrom D frame place = from place (items (scanned (D .read) frame))
+
+-- a receiver's state and the pool lent to it
+pub record Board : Type 0 where
+  pub state : State
+  pub pool : List ℕ
+
+-- a bundle that is handed out: of a bundle message, or of a transfer with its number
+pub record Handed : Type 0 where
+  pub origin : Origin
+  pub octets : List ℕ
+
+pub record Outcome : Type 0 where
+  pub board : Board
+  pub handed : Option Handed
+
+-- octets 4096 times the row, up to 4,095 further
+unfoldable pub cellAt : List ℕ → ℕ → List ℕ
+cellAt pool r = take bundleMax (drop (r * bundleMax) pool)
+
+unfoldable pub putCell : List ℕ → ℕ → List ℕ → List ℕ
+putCell pool r cell = put pool (r * bundleMax) cell
+
+unfoldable pub handedOf : Origin → Option (List ℕ) → Option Handed
+handedOf origin none = none
+handedOf origin (some octets) = some (record { origin = origin; octets = octets })
+
+abbrev pub unchanged : Board → Outcome
+unchanged b = record { board = b; handed = none }
+
+module _ (w : ℕ) where
+  -- the rows from r on, those of the d numbers after g Free
+  unfoldable pub freedFrom : ℕ → ℕ → ℕ → List Row → List Row
+  freedFrom r g d [] = []
+  freedFrom r g d (x ∷ xs) = cond (enters w g d r) (emptyRow Free) x ∷ freedFrom (suc r) g d xs
+
+  -- G becomes t, and the rows of the d numbers that entered become Free; the pool's octets stay
+  unfoldable pub moved : Board → ℕ → ℕ → Board
+  moved b t d = record { state = record { present = true; greatest = t; rows = freedFrom 0 (b .state .greatest) d (b .state .rows) }; pool = b .pool }
+
+  -- the row that number t owns and its cell, as the row rules leave them
+  unfoldable pub inRow : (Row → List ℕ → Rules.Outcome) → Board → ℕ → Outcome
+  inRow rule b t =
+      let r : ℕ = rowOf w t in
+      let o : Rules.Outcome = rule (getD (b .state .rows) r (emptyRow Free)) (cellAt (b .pool) r) in
+      record {
+        board = record {
+          state = record { present = b .state .present; greatest = b .state .greatest; rows = set (b .state .rows) r (o .row) };
+          pool = putCell (b .pool) r (o .cell);
+        };
+        handed = handedOf (Transfer t) (o .bundle);
+      }
+
+  -- a transfer message with number t, by how t stands to the window
+  unfoldable pub treatTransfer : Standing → (Row → List ℕ → Rules.Outcome) → Board → ℕ → Outcome
+  treatTransfer Inside rule b t = inRow rule b t
+  treatTransfer (New d) rule b t = inRow rule (moved b t d) t
+  treatTransfer Outside rule b t = unchanged b
+
+  abbrev pub transfer : (Row → List ℕ → Rules.Outcome) → Board → ℕ → Outcome
+  transfer rule b t = treatTransfer (standingOf w (b .state .present) (b .state .greatest) t) rule b t
+
+  -- a bundle message hands out its content each time it comes
+  unfoldable pub step : Bool → Board → Message → Outcome
+  step falling b skipped = unchanged b
+  step falling b (bundle content) = record { board = b; handed = handedOf Whole (some content) }
+  step falling b (segment t i d) = transfer (pieceStep falling false i d) b t
+  step falling b (last t i d) = transfer (pieceStep falling true i d) b t
+  step falling b (cancel t) = transfer cancelStep b t

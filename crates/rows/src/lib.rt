@@ -1,0 +1,179 @@
+// A receiver's state: the greatest number and a row for each number of the window. Which states are sound, which rows a new number frees,
+// and where a message goes (document 01, "Transfer window" and "Sound state").
+use row::Phase;
+use row::Row;
+use window::Standing;
+use wire::Kind;
+ghost use mathlib.Core.Path.{_≡_};
+ghost use mathlib.Core.Bool.{true, cond};
+ghost use lib.ListN.{length};
+ghost use lib.Dec.{ltb};
+ghost use Rattle.wire.specs.Layout.{fitting, message};
+ghost use Rattle.window.specs.Window.{windowSize, standingOf};
+ghost use Rattle.rows.specs.State as Spec;
+ghost use Rattle.rows.specs.Message.{freedFrom};
+ghost use Rattle.rows.specs.Visit as Visits;
+
+// The greatest transfer number, where there is one yet, and a row for each number of the window.
+pub struct State {
+    pub present: bool,
+    pub greatest: u32,
+    pub rows: [Row; 16],
+}
+
+// Where a bundle comes from: a bundle message, or a transfer with its number.
+pub enum Origin {
+    Whole,
+    Transfer(u32),
+}
+
+// What a message does: nothing, where it is passed over or outside the window; or hand out its content; or bring its row a piece, of an
+// end or of a segment; or cancel its row.
+pub enum Act {
+    Pass,
+    HandOut,
+    Piece(bool),
+    Cancel,
+}
+
+// What a message does, the row that it goes to, how many numbers enter the window for it, the window after it, and the origin of
+// its bundle.
+pub struct Visit {
+    pub act: Act,
+    pub slot: usize,
+    pub entered: u32,
+    pub present: bool,
+    pub greatest: u32,
+    pub origin: Origin,
+}
+
+fn is_free(phase: Phase) -> bool
+    ensures { λ r. ⌜ r ≡ Spec.isFree phase ⌝ }
+{
+    match phase {
+        Phase::Free => true,
+        Phase::Open => false,
+        Phase::Done => false,
+        Phase::Cancelled => false,
+        Phase::Abandoned => false,
+    }
+}
+
+// A row is sound, and free where there is no greatest number.
+fn sound_in(row: Row, present: bool) -> bool
+    ensures { λ r. ⌜ r ≡ Spec.soundIn present row ⌝ }
+{
+    let phase = row.phase;
+    let free = is_free(phase);
+    row::sound_row(row) & (present | free)
+}
+
+pub fn is_sound(state: State) -> bool
+    ensures { λ r. ⌜ r ≡ Spec.sound state ⌝ }
+{
+    let present = state.present;
+    let mut sound = present | (state.greatest == 0);
+    let mut k = 0;
+    while k < 16 {
+        let row = state.rows[k];
+        sound = sound & sound_in(row, present);
+        k += 1;
+    }
+    sound
+}
+
+fn least(a: u32, b: u32) -> u32
+    ensures { λ r. ⌜ r ≡ cond (ltb a b) a b ⌝ }
+{
+    if a < b {
+        return a;
+    }
+    b
+}
+
+// The rows of the numbers that entered, so many after the greatest, become free.
+pub fn freed(rows: [Row; 16], greatest: u32, entered: u32) -> [Row; 16]
+    ensures { λ r. ⌜ r ≡ freedFrom windowSize 0 greatest entered rows ⌝ }
+{
+    let free = row::empty_row(Phase::Free);
+    let count = least(entered, 16);
+    let first = greatest % 16 + 1;
+    let mut next = rows;
+    let mut j = 0;
+    while j < count {
+        let slot = window::row_of(first + j);
+        next[slot] = free;
+        j += 1;
+    }
+    next
+}
+
+fn stay(present: bool, greatest: u32, act: Act) -> Visit
+    ensures { λ r. ⌜ r ≡ Visits.stay present greatest act ⌝ }
+{
+    Visit {
+        act,
+        slot: 0,
+        entered: 0,
+        present,
+        greatest,
+        origin: Origin::Whole,
+    }
+}
+
+// Where a transfer message goes.
+fn transfer_visit(present: bool, greatest: u32, act: Act, number: u32) -> Visit
+    ensures { λ r. ⌜ r ≡ Visits.transferVisit windowSize (standingOf windowSize present greatest number) present greatest act number ⌝ }
+{
+    let slot = window::row_of(number);
+    let origin = Origin::Transfer(number);
+    let s = window::standing_of(present, greatest, number);
+    match s {
+        Standing::Inside => Visit {
+            act,
+            slot,
+            entered: 0,
+            present,
+            greatest,
+            origin,
+        },
+        Standing::New(entered) => Visit {
+            act,
+            slot,
+            entered,
+            present: true,
+            greatest: number,
+            origin,
+        },
+        Standing::Outside => stay(present, greatest, Act::Pass),
+    }
+}
+
+// Where a message goes.
+pub fn visit_of(present: bool, greatest: u32, kind: Kind, content: &[u8]) -> Visit
+    requires { ⌜ fitting kind (length (now content)) ≡ true ⌝ }
+    ensures { λ r. ⌜ r ≡ Visits.visitOf windowSize present greatest (message kind (now (content .entry))) ⌝ }
+{
+    match kind {
+        Kind::Skipped => stay(present, greatest, Act::Pass),
+        Kind::Bundle => stay(present, greatest, Act::HandOut),
+        Kind::Segment => transfer_visit(
+            present,
+            greatest,
+            Act::Piece(false),
+            octets::number_at(content, 0),
+        ),
+        Kind::End => transfer_visit(
+            present,
+            greatest,
+            Act::Piece(true),
+            octets::number_at(content, 0),
+        ),
+        Kind::Cancel => transfer_visit(
+            present,
+            greatest,
+            Act::Cancel,
+            octets::number_at(content, 0),
+        ),
+    }
+}

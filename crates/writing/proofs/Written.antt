@@ -1,0 +1,195 @@
+-- A message that was written reads back: a header without flags, and a content that fits its type.
+--     read-written     each kind of message that a sender writes, whatever follows
+--     read-definite    definite padding, whatever follows
+--     read-padding     any padding, up to the frame's end
+--     length-written, length-piece, length-padding     their sizes
+--     header-put, piece-put, padding-put     the stores that write them
+use mathlib.Core.Path.{_≡_, refl, ap, _∙_}
+use mathlib.Core.Bool.{Bool, true, false}
+use mathlib.Core.List.{List, [], _∷_, _++_, append-nil}
+use Prim.Native.Nat.{ℕ, zero, suc, _+_, _-_, _*_, _/_, _%_, _≤_, _<_, _^_}
+use native.Mathlib.Omega.{arith}
+use lib.ListN.{length, length-append, replicate, length-replicate}
+use lib.Seq.{take-append-seam}
+use lib.Dec.{leb}
+use borrow.Author.Tests.{le-ltb, lt-leb, le-leb, eq-eqb, leb-true}
+use Rattle.octets.specs.Octets.{be32, put}
+use Rattle.octets.proofs.Flags.{cond-elim}
+use Rattle.octets.proofs.Put.{put-put}
+use Rattle.octets.proofs.Numbers.{number-be32}
+use Rattle.wire.specs.declared.Kind.{Kind}
+use Rattle.wire.specs.declared.Kind.the-variants.{Skipped, Bundle, Segment, End, Cancel}
+use Rattle.wire.specs.Message.{Message, skipped, bundle, segment, last, cancel, good, contentLength, kind}
+use Rattle.wire.specs.Layout.{zeros, kindOf, lengthField, behind, hints, fitting, message, content, body, bodied, headed, read}
+use Rattle.writing.specs.Written.{typeOf, header, contentOf, written, pieceKind, piece, padding}
+
+body-back : (k : Kind) (ys : List ℕ) (s : ℕ) → fitting k (length ys) ≡ true → body k (behind ys) s ≡ good (message k ys) s
+unfolding body content message
+body-back Skipped ys s f = refl
+body-back Bundle ys s f = rw f
+body-back Segment ys s f = rw f
+body-back End ys s f = rw f
+body-back Cancel ys s f = rw f
+
+module _ (t a b c : ℕ) (ys rest : List ℕ) (plain : a < 16) (size : a * 65536 + b * 256 + c ≡ length ys) where
+  field : lengthField (t ∷ a ∷ b ∷ c ∷ (ys ++ rest)) ≡ length ys
+  unfolding lengthField
+  field = omega arith
+
+  bodied-back : fitting (kindOf t) (length ys) ≡ true → bodied (t ∷ a ∷ b ∷ c ∷ (ys ++ rest)) (length ys) ≡ good (message (kindOf t) ys) (4 + length ys)
+  unfolding bodied hints
+  bodied-back f = rw (lt-leb 128 a (omega arith), take-append-seam ys rest) (body-back (kindOf t) ys (4 + length ys) f)
+
+  headed-back : fitting (kindOf t) (length ys) ≡ true → headed (t ∷ a ∷ b ∷ c ∷ (ys ++ rest)) ≡ good (message (kindOf t) ys) (4 + length ys)
+  unfolding headed
+  headed-back f =
+      let n : length (ys ++ rest) ≡ length ys + length rest = length-append ys rest in
+      rw (field, le-ltb (length (t ∷ a ∷ b ∷ c ∷ (ys ++ rest))) 4 (omega arith), eq-eqb (a / 16 % 8) 0 (omega arith), le-ltb (length (t ∷ a ∷ b ∷ c ∷ (ys ++ rest))) (4 + length ys) (omega arith)) (bodied-back f)
+
+pub written-back : (t a b c : ℕ) (ys rest : List ℕ) → 0 < t → a < 16 → a * 65536 + b * 256 + c ≡ length ys → fitting (kindOf t) (length ys) ≡ true
+    → read (t ∷ a ∷ b ∷ c ∷ (ys ++ rest)) ≡ good (message (kindOf t) ys) (4 + length ys)
+unfolding read
+written-back zero a b c ys rest p q e f = absurd (omega arith)
+written-back (suc t) a b c ys rest p q e f = headed-back (suc t) a b c ys rest q e f
+
+zeros-all : (n : ℕ) → zeros (replicate n 0) ≡ n
+unfolding zeros
+zeros-all zero = refl
+zeros-all (suc n) = let z = zeros-all n in omega arith
+
+-- zero octets up to the frame's end are one message
+pub zeros-back : (n : ℕ) → read (replicate (suc n) 0) ≡ good skipped (suc n)
+unfolding read
+zeros-back n = ap (good skipped) (let z = zeros-all n in omega arith)
+
+-- ---- the messages of a sender
+
+kind-type : (k : Kind) → kindOf (typeOf k) ≡ k
+unfolding kindOf
+kind-type Skipped = refl
+kind-type Bundle = refl
+kind-type Segment = refl
+kind-type End = refl
+kind-type Cancel = refl
+
+typed : (k : Kind) → 0 < typeOf k
+typed Skipped = omega arith
+typed Bundle = omega arith
+typed Segment = omega arith
+typed End = omega arith
+typed Cancel = omega arith
+
+header-back : (k : Kind) (c rest : List ℕ) → length c < 2 ^ 20 → fitting k (length c) ≡ true → read (header k (length c) ++ c ++ rest) ≡ good (message k c) (4 + length c)
+unfolding header
+header-back k c rest h f =
+    rw (kind-type k) at (written-back (typeOf k) (length c / 65536) (length c / 256 % 256) (length c % 256) c rest (typed k) (omega arith) (omega arith) (rw (kind-type k) f))
+
+-- A message whose numbers have 32 bits and whose length field has 20.
+pub data Writable : Message → Type 0 where
+  empty : Writable skipped
+  whole : {b : List ℕ} → length b < 2 ^ 20 → Writable (bundle b)
+  more : {n i : ℕ} {b : List ℕ} → n < 2 ^ 32 → i < 2 ^ 32 → 8 + length b < 2 ^ 20 → Writable (segment n i b)
+  final : {n i : ℕ} {b : List ℕ} → n < 2 ^ 32 → i < 2 ^ 32 → 8 + length b < 2 ^ 20 → Writable (last n i b)
+  stop : {n : ℕ} → n < 2 ^ 32 → Writable (cancel n)
+
+pub writable-piece : (ending : Bool) (n i : ℕ) (b : List ℕ) → n < 2 ^ 32 → i < 2 ^ 32 → 8 + length b < 2 ^ 20 → Writable (piece ending n i b)
+unfolding piece
+writable-piece true n i b p q r = final p q r
+writable-piece false n i b p q r = more p q r
+
+length-content : (m : Message) → length (contentOf m) ≡ contentLength m
+unfolding contentOf contentLength be32
+length-content skipped = refl
+length-content (bundle b) = refl
+length-content (segment n i b) = omega arith
+length-content (last n i b) = omega arith
+length-content (cancel n) = refl
+
+pub length-written : (m : Message) → length (written m) ≡ 4 + contentLength m
+unfolding written header
+length-written m = omega (arith, length-content m)
+
+short : {m : Message} → Writable m → contentLength m < 2 ^ 20
+unfolding contentLength
+short empty = omega arith
+short (whole r) = r
+short (more p q r) = r
+short (final p q r) = r
+short (stop p) = omega arith
+
+fits : {m : Message} → Writable m → fitting (kind m) (contentLength m) ≡ true
+unfolding fitting kind contentLength
+fits empty = refl
+fits (whole r) = refl
+fits (more {b} p q r) = le-leb 8 (8 + length b) (omega arith)
+fits (final {b} p q r) = le-leb 8 (8 + length b) (omega arith)
+fits (stop p) = refl
+
+means : {m : Message} → Writable m → message (kind m) (contentOf m) ≡ m
+unfolding message kind contentOf be32
+means empty = refl
+means (whole r) = refl
+means (more {n} {i} {b} p q r) = rw (number-be32 n (be32 i ++ b) p, number-be32 i b q)
+means (final {n} {i} {b} p q r) = rw (number-be32 n (be32 i ++ b) p, number-be32 i b q)
+means (stop {n} p) = rw (number-be32 n [] p)
+
+pub read-written : (m : Message) (rest : List ℕ) → Writable m → read (written m ++ rest) ≡ good m (4 + contentLength m)
+unfolding written
+read-written m rest w =
+    rw (length-content m, means w) at (header-back (kind m) (contentOf m) rest (rw (length-content m) (short w)) (rw (length-content m) (fits w)))
+
+-- ---- padding
+
+definite : (n : ℕ) (rest : List ℕ) → n < 2 ^ 20 → read (header Skipped n ++ replicate n 0 ++ rest) ≡ good skipped (4 + n)
+unfolding message fitting
+definite n rest h = rw (length-replicate {A = ℕ} n 0) at (header-back Skipped (replicate n 0) rest (rw (length-replicate {A = ℕ} n 0) h) refl)
+
+pub read-definite : (r : ℕ) (rest : List ℕ) → 4 ≤ r → r < 2 ^ 20 → read (padding r ++ rest) ≡ good skipped r
+unfolding padding
+read-definite r rest h k = rw (le-leb 4 r h) (definite (r - 4) rest (omega arith) ∙ ap (good skipped) (omega arith))
+
+zeros-close : (r : ℕ) → 0 < r → read (replicate r 0) ≡ good skipped r
+zeros-close zero h = absurd (omega arith)
+zeros-close (suc n) h = zeros-back n
+
+pub read-padding : (r : ℕ) → 0 < r → r < 2 ^ 20 → read (padding r) ≡ good skipped r
+unfolding padding
+read-padding r h k =
+    cond-elim (λ (l : List ℕ). read l ≡ good skipped r) (leb 4 r)
+    (λ e. let l = leb-true 4 r e in rw append-nil at (definite (r - 4) [] (omega arith)) ∙ ap (good skipped) (omega arith))
+    λ e. zeros-close r h
+
+pub length-padding : (r : ℕ) → length (padding r) ≡ r
+unfolding padding header
+length-padding r =
+    cond-elim (λ (l : List ℕ). length l ≡ r) (leb 4 r)
+    (λ e. omega (arith, leb-true 4 r e, length-replicate {A = ℕ} (r - 4) 0))
+    λ e. length-replicate r 0
+
+-- ---- the stores that write them
+
+written-piece : (e : Bool) (n i : ℕ) (b : List ℕ) → written (piece e n i b) ≡ header (pieceKind e) (8 + length b) ++ (be32 n ++ be32 i ++ b)
+unfolding written piece kind contentLength contentOf
+written-piece true n i b = refl
+written-piece false n i b = refl
+
+pub length-piece : (e : Bool) (n i : ℕ) (b : List ℕ) → length (written (piece e n i b)) ≡ 12 + length b
+unfolding header be32
+length-piece e n i b = rw (written-piece e n i b) (omega arith)
+
+module _ (d : List ℕ) (at : ℕ) where
+  pub header-put : (k : Kind) (n : ℕ) (c : List ℕ) → at + 4 + length c ≤ length d → put (put d at (header k n)) (at + 4) c ≡ put d at (header k n ++ c)
+  unfolding header
+  header-put k n c h = put-put d at (at + 4) (header k n) c refl h
+
+  pub piece-put : (e : Bool) (n i : ℕ) (b : List ℕ) → at + 12 + length b ≤ length d
+      → put (put (put (put d at (header (pieceKind e) (8 + length b))) (at + 4) (be32 n)) (at + 8) (be32 i)) (at + 12) b ≡ put d at (written (piece e n i b))
+  unfolding header be32
+  piece-put e n i b h =
+      let t : List ℕ = header (pieceKind e) (8 + length b) in
+      rw (written-piece e n i b, put-put d at (at + 4) t (be32 n) refl (omega arith), put-put d at (at + 8) (t ++ be32 n) (be32 i) refl (omega arith))
+      (put-put d at (at + 12) (t ++ be32 n ++ be32 i) b refl h)
+
+  pub padding-put : (r : ℕ) → 4 ≤ r → at + r ≤ length d → put (put d at (header Skipped (r - 4))) (at + 4) (replicate (r - 4) 0) ≡ put d at (padding r)
+  unfolding padding
+  padding-put r h k = rw (le-leb 4 r h) (header-put Skipped (r - 4) (replicate (r - 4) 0) (rw (length-replicate {A = ℕ} (r - 4) 0) (omega arith)))
