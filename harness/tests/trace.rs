@@ -11,7 +11,10 @@ fn root() -> PathBuf {
 fn rows(text: &str) -> Vec<Vec<(String, String)>> {
     let cells = |line: &str| -> Vec<String> {
         let inner = line.trim_start_matches('|').trim_end_matches('|');
-        inner.split('|').map(|cell| cell.trim().to_string()).collect()
+        inner
+            .split('|')
+            .map(|cell| cell.trim().to_string())
+            .collect()
     };
     let mut header = Vec::new();
     let mut found = Vec::new();
@@ -40,7 +43,9 @@ fn declares(definitions: &str, name: &str) -> bool {
         let Some((_, declared)) = line.split_once("pub ") else {
             return false;
         };
-        let declared = declared.trim_start_matches("record ").trim_start_matches("data ");
+        let declared = declared
+            .trim_start_matches("record ")
+            .trim_start_matches("data ");
         declared.split([' ', ':', '(']).next() == Some(name)
     })
 }
@@ -51,7 +56,9 @@ fn edits_are_there() {
     let mut count = 0;
     for cell in column(&text, "must-fail edit") {
         for edit in cell.split(", ") {
-            let (name, label) = edit.split_once('/').unwrap_or_else(|| panic!("{edit}: no crate"));
+            let (name, label) = edit
+                .split_once('/')
+                .unwrap_or_else(|| panic!("{edit}: no crate"));
             let file = root().join(format!("crates/{name}/must-fail/{label}.edit"));
             assert!(file.exists(), "{edit}: no such edit");
             count += 1;
@@ -76,10 +83,13 @@ fn definitions_are_there() {
                 continue;
             }
             let path = root().join(format!("crates/{name}/specs/{file}.antt"));
-            let definitions =
-                fs::read_to_string(&path).unwrap_or_else(|_| panic!("{part}: no file {}", path.display()));
+            let definitions = fs::read_to_string(&path)
+                .unwrap_or_else(|_| panic!("{part}: no file {}", path.display()));
             for name in format!("`{names}").split('`').skip(1).step_by(2) {
-                assert!(declares(&definitions, name), "{part}: {name} is not declared");
+                assert!(
+                    declares(&definitions, name),
+                    "{part}: {name} is not declared"
+                );
                 count += 1;
             }
         }
