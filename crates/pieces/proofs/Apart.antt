@@ -1,6 +1,6 @@
 -- Distinct indexes below 64 by a table of those seen: `apart` is what the loop of `distinct` computes.
 use mathlib.Core.Path.{_≡_, refl, sym, _∙_}
-use mathlib.Core.Bool.{Bool, true, false, not, _&&_, _||_, and-true, and-comm}
+use mathlib.Core.Bool.{Bool, true, false, not, _&&_, _||_, and-true, and-false, and-comm}
 use mathlib.Core.List.{List, [], _∷_}
 use mathlib.Core.Logic.{_⊎_, inl, inr}
 use Prim.Native.Nat.{ℕ, zero, suc, _+_, _≤_, _<_}
@@ -81,19 +81,20 @@ pub apart-none : (xs : List ℕ) → lowAndDistinct xs ≡ apart (replicate 64 f
 unfolding lowAndDistinct
 apart-none xs = sym (apart-is (replicate 64 false) xs (length-replicate 64 false) ∙ rw (clear-none 64 xs, and-true (distinct xs)) (and-comm (not (hasAbove 63 xs)) (distinct xs)))
 
-module _ (all : Bool) (seen : List Bool) (k n : ℕ) (xs : List ℕ) (l : n ≤ length xs) (e : all ≡ apart seen (rest k n xs)) where
+-- a turn of the loop, and its ends: `twice` says whether an index passed had been seen
+one-more : (twice seen later : Bool) → (not twice && (not seen && later)) ≡ (not (twice || seen) && later)
+one-more true seen later = refl
+one-more false seen later = refl
+
+module _ (all twice : Bool) (seen : List Bool) (k n : ℕ) (xs : List ℕ) (l : n ≤ length xs) (e : all ≡ (not twice && apart seen (rest k n xs))) where
   pub apart-high : k < n → 63 < getD xs k 0 → false ≡ all
   unfolding apart
-  apart-high h g = sym (e ∙ rw (rest-next k n xs h l, lt-ltb 63 (getD xs k 0) g))
+  apart-high h g = sym (e ∙ rw (rest-next k n xs h l, lt-ltb 63 (getD xs k 0) g) (and-false (not twice)))
 
-  pub apart-seen : k < n → getD xs k 0 ≤ 63 → getD seen (getD xs k 0) false ≡ true → false ≡ all
+  pub apart-turn : k < n → getD xs k 0 ≤ 63 → all ≡ (not (twice || getD seen (getD xs k 0) false) && apart (set seen (getD xs k 0) true) (rest (k + 1) n xs))
   unfolding apart
-  apart-seen h g s = sym (e ∙ rw (rest-next k n xs h l, le-ltb 63 (getD xs k 0) g, s))
+  apart-turn h g = e ∙ rw (rest-next k n xs h l, le-ltb 63 (getD xs k 0) g) (one-more twice (getD seen (getD xs k 0) false) (apart (set seen (getD xs k 0) true) (rest (k + 1) n xs)))
 
-  pub apart-turn : k < n → getD xs k 0 ≤ 63 → getD seen (getD xs k 0) false ≡ false → all ≡ apart (set seen (getD xs k 0) true) (rest (k + 1) n xs)
+  pub apart-end : n ≤ k → not twice ≡ all
   unfolding apart
-  apart-turn h g s = e ∙ rw (rest-next k n xs h l, le-ltb 63 (getD xs k 0) g, s)
-
-  pub apart-end : n ≤ k → true ≡ all
-  unfolding apart
-  apart-end h = sym (e ∙ rw (rest-end k n xs h l))
+  apart-end h = sym (e ∙ rw (rest-end k n xs h l) (and-true (not twice)))

@@ -154,19 +154,18 @@ pub fn distinct(indexes: &[u8], held: usize) -> bool
     ensures { λ r. ⌜ r ≡ Spec.lowAndDistinct (take held (now (indexes .entry))) ⌝ }
 {
     let mut seen = [false; 64];
+    let mut twice = false;
     let mut k = 0;
     while k < held {
         let x = indexes[k] as usize;
         if 63 < x {
             return false;
         }
-        if seen[x] {
-            return false;
-        }
+        twice = twice | seen[x];
         seen[x] = true;
         k += 1;
     }
-    true
+    !twice
 }
 
 // Joins the pieces from index 0 to last at the front of `out`, in rising order of index; answers the length.

@@ -19,13 +19,14 @@ pub enum Phase {
 }
 
 // The pieces held, in order of arrival: the first `held` entries of indexes and lengths.
-// The final index has a meaning where it is known.
+// The final index has a meaning where it is known. The count stands between the arrays: the compiler then copies each of them by itself,
+// without a call.
 pub struct Row {
     pub phase: Phase,
     pub known: bool,
     pub last: u8,
-    pub held: usize,
     pub indexes: [u8; 64],
+    pub held: usize,
     pub lengths: [u16; 64],
 }
 

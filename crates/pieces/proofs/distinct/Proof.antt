@@ -1,20 +1,21 @@
--- `pieces::distinct` meets its contract. The table holds the indexes passed: `apart` of the rest is the answer. Assumes nothing.
+-- `pieces::distinct` meets its contract. The table holds the indexes passed: the answer is `apart` of the rest, if none came twice.
+use mathlib.Core.Bool.{not, _&&_}
 use mathlib.Core.Path.{_≡_, refl}
 use Prim.Native.Nat.{_-_}
 use native.Mathlib.Omega.{arith}
 use lib.ListN.{length, take, length-set}
 use Rattle.pieces.proofs.Lists.{rest}
-use Rattle.pieces.proofs.Apart.{apart, apart-none, apart-high, apart-seen, apart-turn, apart-end}
+use Rattle.pieces.proofs.Apart.{apart, apart-none, apart-high, apart-turn, apart-end}
 use Rattle.pieces.specs.Pieces.{lowAndDistinct}
 use borrow.Author.Needs.{needs}
 use Rattle.pieces.proofs.distinct.Statement.{statement}
 use Rattle.pieces.proofs.distinct.Tie as tie
 
 abbrev Inv-loop : tie.InvT-loop
-Inv-loop indexes held seen₀ k₀ seen k = (lowAndDistinct (take held indexes) ≡ apart seen (rest k held indexes)) × (length seen ≡ 64)
+Inv-loop indexes held seen₀ twice₀ k₀ seen twice k = (lowAndDistinct (take held indexes) ≡ (not twice && apart seen (rest k held indexes))) × (length seen ≡ 64)
 
 abbrev μ-loop : tie.MeasureT-loop
-μ-loop indexes held seen₀ k₀ seen k = held - k
+μ-loop indexes held seen₀ twice₀ k₀ seen twice k = held - k
 
 loop-holds : tie.Need-loop-holds Inv-loop μ-loop
 loop-holds c = (apart-none _, refl)
@@ -29,16 +30,10 @@ returns : tie.Need-returns Inv-loop μ-loop
 returns c =
     let l = c .before .before .before .loop in
     let a = c .before .before .before .before .args in
-    apart-high _ (l .seen) (l .k) (a .held) (a .indexes .now) (omega arith) (l .inv .0) (omega arith) (c .if1 .taken)
+    apart-high _ (l .twice) (l .seen) (l .k) (a .held) (a .indexes .now) (omega arith) (l .inv .0) (omega arith) (c .if1 .taken)
 
-array-read-if2 : tie.Need-array-read-if2 Inv-loop μ-loop
-array-read-if2 c = search needs
-
-returns-2 : tie.Need-returns-2 Inv-loop μ-loop
-returns-2 c =
-    let l = c .before .before .before .before .loop in
-    let a = c .before .before .before .before .before .args in
-    apart-seen _ (l .seen) (l .k) (a .held) (a .indexes .now) (omega arith) (l .inv .0) (omega arith) (c .before .if1 .left) (c .if2 .taken)
+array-read-twice : tie.Need-array-read-twice Inv-loop μ-loop
+array-read-twice c = search needs
 
 array-write-seen : tie.Need-array-write-seen Inv-loop μ-loop
 array-write-seen c = search needs
@@ -51,15 +46,15 @@ loop-less c = search needs
 
 loop-again : tie.Need-loop-again Inv-loop μ-loop
 loop-again c =
-    let l = c .before .before .before .before .loop in
-    let a = c .before .before .before .before .before .args in
-    (apart-turn _ (l .seen) (l .k) (a .held) (a .indexes .now) (omega arith) (l .inv .0) (omega arith) (c .before .if1 .left) (c .if2 .left), simp length-set (l .inv .1))
+    let l = c .before .before .before .loop in
+    let a = c .before .before .before .before .args in
+    (apart-turn _ (l .twice) (l .seen) (l .k) (a .held) (a .indexes .now) (omega arith) (l .inv .0) (omega arith) (c .if1 .left), simp length-set (l .inv .1))
 
-returns-3 : tie.Need-returns-3 Inv-loop μ-loop
-returns-3 c =
+returns-2 : tie.Need-returns-2 Inv-loop μ-loop
+returns-2 c =
     let l = c .before .loop in
     let a = c .before .before .args in
-    apart-end _ (l .seen) (l .k) (a .held) (a .indexes .now) (omega arith) (l .inv .0) (omega arith)
+    apart-end _ (l .twice) (l .seen) (l .k) (a .held) (a .indexes .now) (omega arith) (l .inv .0) (omega arith)
 
 pub distinct-spec : {M : Type 1} → statement M
 distinct-spec =
@@ -71,10 +66,9 @@ distinct-spec =
     shared-slice-read-x
     cast-x
     returns
-    array-read-if2
-    returns-2
+    array-read-twice
     array-write-seen
     add-k
     loop-less
     loop-again
-    returns-3)
+    returns-2)
