@@ -7,8 +7,12 @@ fn root() -> PathBuf {
     Path::new(env!("CARGO_MANIFEST_DIR")).join("..")
 }
 
-/// The cells of a table's row, and what its header says of each.
-fn rows(text: &str) -> Vec<Vec<(String, String)>> {
+fn read(path: &Path) -> String {
+    fs::read_to_string(path).unwrap_or_else(|fault| panic!("{}: {fault}", path.display()))
+}
+
+/// The cells of all tables under a header of this name.
+fn column(name: &str) -> Vec<String> {
     let cells = |line: &str| -> Vec<String> {
         let inner = line.trim_start_matches('|').trim_end_matches('|');
         inner
@@ -18,43 +22,60 @@ fn rows(text: &str) -> Vec<Vec<(String, String)>> {
     };
     let mut header = Vec::new();
     let mut found = Vec::new();
-    for line in text.lines() {
+    for line in read(&root().join("docs/TRACE.md")).lines() {
         if !line.starts_with('|') {
             header.clear();
         } else if header.is_empty() {
             header = cells(line);
         } else if !line.starts_with("|---") {
-            found.push(header.iter().cloned().zip(cells(line)).collect());
+            let row = header.iter().zip(cells(line));
+            let under = row.filter(|(above, cell)| *above == name && !cell.is_empty());
+            found.extend(under.map(|(_, cell)| cell));
         }
     }
     found
 }
 
-fn column(text: &str, name: &str) -> Vec<String> {
-    let all = rows(text).into_iter().flatten();
-    all.filter(|(header, cell)| header == name && !cell.is_empty())
-        .map(|(_, cell)| cell)
-        .collect()
+/// The text in which a place of the table stands: a crate's types, laws or definitions; of `claims`
+/// where no crate is named.
+fn text_of(place: &str) -> String {
+    let (name, file) = place.split_once('/').unwrap_or(("claims", place));
+    let folder = root().join("crates").join(name);
+    if file == "src" {
+        return read(&folder.join("src/lib.rt"));
+    }
+    let file = match file.strip_prefix("proofs/") {
+        Some(law) => format!("proofs/{law}.antt"),
+        None => format!("specs/{file}.antt"),
+    };
+    read(&folder.join(file))
 }
 
-/// Whether a file of definitions declares a name.
-fn declares(definitions: &str, name: &str) -> bool {
-    definitions.lines().any(|line| {
-        let Some((_, declared)) = line.split_once("pub ") else {
-            return false;
-        };
-        let declared = declared
-            .trim_start_matches("record ")
-            .trim_start_matches("data ");
-        declared.split([' ', ':', '(']).next() == Some(name)
+/// Whether a text declares a name: as a definition, a field, a constructor or a type.
+fn declares(text: &str, name: &str) -> bool {
+    text.lines().any(|line| {
+        let words = line.split([' ', ':', '(']).filter(|word| !word.is_empty());
+        let mut words = words.skip_while(|word| {
+            [
+                "unfoldable",
+                "abbrev",
+                "pub",
+                "record",
+                "data",
+                "struct",
+                "enum",
+            ]
+            .contains(word)
+        });
+        let declares = line.contains(" : ") || line.trim_end().ends_with('{');
+        declares && words.next() == Some(name)
     })
 }
 
 #[test]
 fn edits_are_there() {
-    let text = fs::read_to_string(root().join("docs/TRACE.md")).expect("docs/TRACE.md");
     let mut count = 0;
-    for cell in column(&text, "must-fail edit") {
+    for cell in column("must-fail edit") {
         for edit in cell.split(", ") {
             let (name, label) = edit
                 .split_once('/')
@@ -69,30 +90,27 @@ fn edits_are_there() {
 
 #[test]
 fn definitions_are_there() {
-    let text = fs::read_to_string(root().join("docs/TRACE.md")).expect("docs/TRACE.md");
     let mut count = 0;
-    for cell in column(&text, "definition") {
+    for cell in column("definition") {
         for part in cell.split("; ") {
-            let Some((place, names)) = part.split_once(": `") else {
-                continue;
-            };
-            let Some((name, file)) = place.split_once('/') else {
-                continue;
-            };
-            if file == "src" || file.starts_with("proofs/") {
-                continue;
-            }
-            let path = root().join(format!("crates/{name}/specs/{file}.antt"));
-            let definitions = fs::read_to_string(&path)
-                .unwrap_or_else(|_| panic!("{part}: no file {}", path.display()));
-            for name in format!("`{names}").split('`').skip(1).step_by(2) {
-                assert!(
-                    declares(&definitions, name),
-                    "{part}: {name} is not declared"
-                );
+            let (place, names) = part
+                .split_once(": `")
+                .unwrap_or_else(|| panic!("{part}: no name"));
+            let text = text_of(place);
+            for name in names.split('`').step_by(2) {
+                assert!(declares(&text, name), "{part}: {name} is not declared");
                 count += 1;
             }
         }
     }
     assert!(count > 100, "{count} definitions named");
+}
+
+#[test]
+fn other_names_are_not_declared() {
+    let text = text_of("rows/Message");
+    assert!(declares(&text, "step"));
+    assert!(!declares(&text, "stepp"));
+    assert!(!declares(&text, "draft"), "a word of a comment");
+    assert!(!declares(&text, "soundRow"), "what another file declares");
 }
