@@ -12,8 +12,7 @@ use Rattle.writing.specs.Written.{written, padding}
 use Rattle.wire.proofs.Frames.{scan-step}
 use Rattle.wire.proofs.Spans.{sized}
 use Rattle.writing.proofs.Written.{Writable, read-written, read-padding, length-written, length-padding}
-use Rattle.rows.specs.Message.{draft02}
-use Rattle.rows.specs.Message.{frameMax}
+use Rattle.rows.specs.Message.{draft02, frameMax}
 use Rattle.receiver.proofs.Calls.{messagesIn}
 use Rattle.claims.specs.Record.{WellFormed}
 

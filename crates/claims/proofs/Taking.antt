@@ -13,9 +13,8 @@ use Rattle.pieces.specs.Pieces.{bundleMax}
 use Rattle.rows.specs.declared.Origin.{Origin}
 use Rattle.receiver.specs.declared.Refusal.{Refusal}
 use Rattle.receiver.specs.declared.Answer.the-variants.{Delivered, Finished, Refused}
-use Rattle.rows.specs.Message.{Draft, Board}
+use Rattle.rows.specs.Message.{Draft, Board, messagesFrom}
 use Rattle.receiver.specs.Receive.{Reply, treat, receive}
-use Rattle.rows.specs.Message.{messagesFrom}
 use Rattle.receiver.proofs.Ready.{Ready, treat-ready, fresh-ready}
 use Rattle.receiver.proofs.Calls.{boardAfter, handedBy, messagesIn, Treated, through, stops, treating, refused-keeps, not-refused, admitted}
 use Rattle.claims.specs.Record.{WellFormed, Record}

@@ -8,8 +8,7 @@ use lib.Dec.{eqb}
 use Rattle.wire.specs.Message.{Message, skipped, bundle, segment, last, cancel}
 use Rattle.wire.specs.Frame.{Item, row, scanned, messages}
 use Rattle.pieces.specs.Pieces.{bundleMax, sumOf}
-use Rattle.rows.specs.Message.{Draft}
-use Rattle.rows.specs.Message.{frameMax}
+use Rattle.rows.specs.Message.{Draft, frameMax}
 
 -- "A frame is one link-layer PDU, 1 to 2,048 octets. It is a row of messages that ends exactly at its end."
 pub record WellFormed (D : Draft) (frame : List ℕ) : Type 0 where

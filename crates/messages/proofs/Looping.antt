@@ -36,8 +36,7 @@ use Rattle.row.specs.declared.Phase.the-variants.{Free}
 use Rattle.row.specs.declared.Row.{Row}
 use Rattle.reassembly.specs.declared.Taken.{Taken}
 use Rattle.row.proofs.Shaped.{Shaped}
-use Rattle.rows.specs.Message.{draft02, Board, Outcome, handedOf, cellAt, step}
-use Rattle.rows.specs.Message.{messagesFrom}
+use Rattle.rows.specs.Message.{draft02, Board, Outcome, handedOf, cellAt, step, messagesFrom}
 use Rattle.messages.specs.Run.{Run, admits, rowStep, writtenAt, Lands, size, progressed, advanced, roomy, run}
 use Rattle.rows.specs.Visit.{visitOf}
 use Rattle.rows.specs.declared.Origin.{Origin}

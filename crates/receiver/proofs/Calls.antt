@@ -16,8 +16,7 @@ use Rattle.pieces.specs.Pieces.{bundleMax}
 use Rattle.receiver.specs.declared.Refusal.{Refusal}
 use Rattle.receiver.specs.declared.Answer.the-variants.{Delivered, Finished, Refused}
 use Rattle.rows.specs.State as State
-use Rattle.rows.specs.Message.{Draft, Board, Handed, step}
-use Rattle.rows.specs.Message.{frameMax, messagesFrom}
+use Rattle.rows.specs.Message.{Draft, Board, Handed, step, frameMax, messagesFrom}
 use Rattle.receiver.specs.Receive.{frameRefusal, replied, delivered, refusal, treat, receive}
 
 -- what messages hand out, and the board that they leave

@@ -26,9 +26,8 @@ use Rattle.reassembly.proofs.Kept.{cancel-sound, cancel-shaped, piece-sound, pi
 use Rattle.receiver.specs.declared.Refusal.{Refusal}
 use Rattle.rows.specs.State as State
 use Rattle.rows.specs.State.{isFree, soundIn, soundRows, fresh}
-use Rattle.rows.specs.Message.{Draft, Board, Handed, Outcome, cellAt, moved, inRow, treatTransfer, step}
+use Rattle.rows.specs.Message.{Draft, Board, Handed, Outcome, cellAt, moved, inRow, treatTransfer, step, messagesFrom}
 use Rattle.receiver.specs.Receive.{Reply, replied, delivered, refusal, treat, receive}
-use Rattle.rows.specs.Message.{messagesFrom}
 use Rattle.rows.proofs.Rows.{sound-get, sound-set, sound-present, sound-freed, length-freed, getD-freed}
 use Rattle.messages.proofs.Cells.{length-cell, length-put-cell}
 

@@ -16,8 +16,7 @@ use Rattle.wire.specs.declared.Checked.{Checked}
 use Rattle.wire.specs.declared.Checked.the-variants as Frame
 use Rattle.wire.specs.declared.Fault.the-variants.{ShortHeader, ReservedFlag, PastFrame, PastMessage, BadContent}
 use Rattle.pieces.specs.Pieces.{bundleMax}
-use Rattle.rows.specs.Message.{Draft, Board}
-use Rattle.rows.specs.Message.{frameMax, messagesFrom}
+use Rattle.rows.specs.Message.{Draft, Board, frameMax, messagesFrom}
 use Rattle.receiver.specs.Receive.{refusalNumber, frameRefusal, replied, refusal, treat, receive}
 use Rattle.receiver.specs.Steps.{admission}
 use Rattle.rows.specs.State.{sound}

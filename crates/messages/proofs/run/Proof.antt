@@ -25,8 +25,7 @@ use Rattle.row.specs.declared.Phase.the-variants.{Free}
 use Rattle.row.specs.declared.Row.{Row}
 use Rattle.reassembly.specs.declared.Taken.{Taken}
 use Rattle.row.proofs.Shaped.{Shaped}
-use Rattle.rows.specs.Message.{draft02, cellAt}
-use Rattle.rows.specs.Message.{messagesFrom}
+use Rattle.rows.specs.Message.{draft02, cellAt, messagesFrom}
 use Rattle.messages.specs.Run.{rowStep, Lands, progressed, size as delivery-size, admits, Run, roomy, going}
 use Rattle.rows.specs.Visit.{visitOf}
 use Rattle.rows.specs.declared.Origin.{Origin}

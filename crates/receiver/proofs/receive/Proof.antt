@@ -3,9 +3,8 @@ use mathlib.Core.Path.{sym, ap, _∙_}
 use native.Mathlib.Omega.{arith}
 use borrow.Author.Needs.{needs}
 use Rattle.window.specs.Window.{windowSize}
-use Rattle.rows.specs.Message.{Board, draft02}
+use Rattle.rows.specs.Message.{Board, draft02, messagesFrom}
 use Rattle.receiver.specs.Receive.{refusal}
-use Rattle.rows.specs.Message.{messagesFrom}
 use Rattle.rows.specs.declared.Origin.the-variants.{Whole}
 use Rattle.receiver.proofs.Limit.{replyOf, one-bundle}
 use Rattle.receiver.proofs.Refusals.{denied, admitted, refused, treated, admits}

@@ -1,11 +1,10 @@
 -- `wire::walk_hints` meets its contract. It calls itself on what one hint leaves, and the measure is the slice's length.
 use Prim.Native.Nat.{ℕ, _<_, _≤_, _+_, _-_}
-use lib.ListN.{length}
+use lib.ListN.{length, getD, drop, take, length-drop}
 use borrow.Author.Needs.{needs}
 use borrow.Author.Tests.{lt-ltb, le-ltb, eq-eqb, ne-eqb}
 use mathlib.Core.Path.{_≡_, ap, _∙_}
 use mathlib.Core.List.{List}
-use lib.ListN.{getD, drop, take, length-drop}
 use lib.Seq.{take-all}
 use Rattle.wire.specs.Layout.{chain, walked}
 use Rattle.wire.proofs.Chains.{step, rest}
