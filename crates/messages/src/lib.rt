@@ -1,4 +1,5 @@
 // The message loop: messages of a frame treated one after the other (document 01, "Receiving call").
+use pieces::BUNDLE_MAX;
 use reassembly::Delivery;
 use reassembly::Taken;
 use row::Phase;
@@ -24,9 +25,6 @@ ghost use Rattle.reassembly.specs.Rules.{Answers};
 ghost use Rattle.rows.specs.State as Spec;
 ghost use Rattle.rows.specs.Message.{draft02, frameMax, messagesFrom, cellAt};
 ghost use Rattle.messages.specs.Run as Loop;
-
-// The most octets of a bundle: a row's part of the pool, and the least output.
-const BUNDLE_MAX: usize = 4096;
 
 // Bundles handed out, their octets, the next message's start, and the last bundle's origin.
 pub struct Progress {

@@ -7,6 +7,9 @@ ghost use Rattle.pieces.specs.Pieces as Spec;
 ghost use Rattle.pieces.specs.Pieces.{bundleMax};
 ghost use Rattle.pieces.specs.Search as Search;
 
+// The most octets of a bundle: of the cell where its pieces lie, and the least output.
+pub const BUNDLE_MAX: usize = 4096;
+
 // Whether an index is held, and whether one above it is.
 pub struct Scan {
     pub held: bool,

@@ -1,5 +1,6 @@
 // The receiver: start and the receiving call (document 01, "Receiving call").
 use messages::Progress;
+use pieces::BUNDLE_MAX;
 use row::Phase;
 pub use rows::Origin;
 pub use rows::State;
@@ -11,9 +12,6 @@ ghost use Rattle.rows.specs.State as Spec;
 ghost use Rattle.rows.specs.Message.{draft02};
 ghost use Rattle.receiver.specs.Receive as Call;
 ghost use Rattle.receiver.specs.Steps as Steps;
-
-// The most octets of a bundle: a row's part of the pool, and the least output.
-const BUNDLE_MAX: usize = 4096;
 
 // A part of the pool for each row.
 const POOL: usize = 65536;

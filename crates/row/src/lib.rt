@@ -1,13 +1,11 @@
 // The row of one transfer: its phase and pieces, the verdict of the row rules on a segment or an end, and what makes a row sound.
+use pieces::BUNDLE_MAX;
 use pieces::Scan;
 ghost use mathlib.Core.Path.{_≡_};
 ghost use mathlib.Core.Bool.{true, false};
 ghost use Prim.Native.Nat.{_≤_};
 ghost use Rattle.pieces.specs.Pieces.{hasAbove};
 ghost use Rattle.row.specs.Row as Spec;
-
-// The most octets of a bundle, and so of a row's cell.
-const BUNDLE_MAX: usize = 4096;
 
 // What a row is about. Abandoned is document 01's "Given up".
 pub enum Phase {
