@@ -3,7 +3,7 @@ use mathlib.Core.Path.{_≡_, refl, sym}
 use mathlib.Core.Bool.{Bool, true, false, cond}
 use mathlib.Core.List.{List, [], _∷_}
 use mathlib.Core.Logic.{_⊎_, inl, inr, ⊎-elim}
-use Prim.Native.Nat.{ℕ, zero, suc, _+_, _-_, _≤_, _<_}
+use Prim.Native.Nat.{ℕ, zero, suc, _+_, _≤_, _<_}
 use native.Mathlib.Nat.{eq-or-lt-of-le}
 use native.Mathlib.Numerals.{add-one}
 use native.Mathlib.Omega.{arith}
@@ -89,28 +89,17 @@ module _ (is ls cell : List ℕ) (fits : sumOf ls ≤ length cell) where
   pub joined-fits : (falling : Bool) (n : ℕ) → length (joined falling n is ls cell) ≤ sumOf ls
   joined-fits falling n = rw (length-joined falling n) (total-fits n is ls)
 
-  -- one piece more behind those joined, copied from s to s + m
-  pub joined-turn : (n k s m : ℕ) (out₀ out : List ℕ) → sumOf ls ≤ length out₀ → k ≡ length (joined false n is ls cell) → s ≡ startOf n is ls → m ≡ sizeOf n is ls
-      → out ≡ put out₀ 0 (joined false n is ls cell) → put out k (take (s + m - s) (drop s cell)) ≡ put out₀ 0 (joined false (n + 1) is ls cell)
-  unfolding joined piece
-  joined-turn n k s m out₀ out room ek es em eo =
-      let J : List ℕ = joined false n is ls cell in
-      let P : List ℕ = take (sizeOf n is ls) (drop (startOf n is ls) cell) in
-      let lp : length P ≡ sizeOf n is ls = length-piece n in
-      let f : k + length P ≤ length out₀ = omega (arith, joined-next n, joined-fits false (n + 1)) in
-      let w : s + m - s ≡ sizeOf n is ls = omega arith in
-      rw (w, es, eo, add-one) (put-put out₀ 0 k J P (omega arith) f)
+  -- one piece more behind those joined
+  pub joined-turn : (n k : ℕ) (out₀ out after octets : List ℕ) → sumOf ls ≤ length out₀ → k ≡ length (joined false n is ls cell) → out ≡ put out₀ 0 (joined false n is ls cell)
+      → octets ≡ piece n is ls cell → after ≡ put out k octets → after ≡ put out₀ 0 (joined false (n + 1) is ls cell)
+  unfolding joined
+  joined-turn n k out₀ out after octets room ek eo e p =
+      let f : k + length (piece n is ls cell) ≤ length out₀ = omega (arith, length-piece n, joined-next n, joined-fits false (n + 1)) in
+      rw (p, e, eo, add-one) (put-put out₀ 0 k (joined false n is ls cell) (piece n is ls cell) (omega arith) f)
 
-  -- the copied part has its length, and ends within the output
-  pub joined-part : (n k s m : ℕ) → k ≡ length (joined false n is ls cell) → s ≡ startOf n is ls → m ≡ sizeOf n is ls
-      → (k + length (take (s + m - s) (drop s cell)) ≤ sumOf ls) × (s + m ≤ sumOf ls) × (k + m ≡ length (joined false (n + 1) is ls cell)) × (k + m ≤ sumOf ls)
-  joined-part n k s m ek es em =
-      let w : s + m - s ≡ m = omega arith in
-      let i = piece-within n is ls in
-      let f = joined-next n in
-      let g = joined-fits false (n + 1) in
-      let lp : length (take m (drop s cell)) ≡ m = length-take-le m (drop s cell) (simp length-drop (omega arith)) in
-      (rw w (omega arith), omega arith, omega arith, omega arith)
+  -- where it ends, within the output
+  pub joined-part : (n k : ℕ) → k ≡ length (joined false n is ls cell) → (k + sizeOf n is ls ≡ length (joined false (n + 1) is ls cell)) × (k + sizeOf n is ls ≤ sumOf ls)
+  joined-part n k e = let f = joined-next n in let g = joined-fits false (n + 1) in (omega arith, omega arith)
 
   pub joined-done : (n m k : ℕ) (out₀ out : List ℕ) → n ≡ m → k ≡ length (joined false n is ls cell) → out ≡ put out₀ 0 (joined false n is ls cell) → Joined (joined false m is ls cell) out₀ k out
   joined-done n m k out₀ out e ek eo = record { size = rw e at ek; output = rw e at eo }

@@ -12,7 +12,7 @@ use lib.Seq.{drop-cons, getD-take, length-take-le}
 use lib.Dec.{ltb, eqb}
 use borrow.Author.Tests.{eqb-true, eqb-false, eq-eqb, ne-eqb}
 use Rattle.octets.proofs.Flags.{bool}
-use Rattle.pieces.specs.Pieces.{has, hasAbove, hasAll, sumOf, startOf, sizeOf, isZeros}
+use Rattle.pieces.specs.Pieces.{has, hasAbove, hasAll, sumOf, isZeros}
 
 abbrev pub rest : ℕ → ℕ → List ℕ → List ℕ
 rest k n xs = drop k (take n xs)
@@ -83,33 +83,6 @@ all-lacks (suc n) i is h e = go (λ q. all-lacks n i is q e) (let h′ : i ≤ n
 
 pub all-done : (a : Bool) (n m : ℕ) (is : List ℕ) → a ≡ true → n ≡ m → hasAll n is ≡ true → a ≡ hasAll m is
 all-done a n m is e q h = e ∙ sym (rw q at h)
-
--- ---- the piece of an index
-
-module _ (i k n : ℕ) (xs ys : List ℕ) (l : n ≤ length xs) (m : n ≤ length ys) where
-  pub start-here : k < n → getD xs k 0 ≡ i → startOf i (rest k n xs) (rest k n ys) ≡ 0
-  unfolding startOf
-  start-here h e = rw (rest-next k n xs h l, rest-next k n ys h m, eq-eqb (getD xs k 0) i e)
-
-  pub size-here : k < n → getD xs k 0 ≡ i → sizeOf i (rest k n xs) (rest k n ys) ≡ getD ys k 0
-  unfolding sizeOf
-  size-here h e = rw (rest-next k n xs h l, rest-next k n ys h m, eq-eqb (getD xs k 0) i e)
-
-  pub start-there : k < n → (getD xs k 0 ≡ i → ⊥) → startOf i (rest k n xs) (rest k n ys) ≡ getD ys k 0 + startOf i (rest (k + 1) n xs) (rest (k + 1) n ys)
-  unfolding startOf
-  start-there h e = rw (rest-next k n xs h l, rest-next k n ys h m, ne-eqb (getD xs k 0) i e)
-
-  pub size-there : k < n → (getD xs k 0 ≡ i → ⊥) → sizeOf i (rest k n xs) (rest k n ys) ≡ sizeOf i (rest (k + 1) n xs) (rest (k + 1) n ys)
-  unfolding sizeOf
-  size-there h e = rw (rest-next k n xs h l, rest-next k n ys h m, ne-eqb (getD xs k 0) i e)
-
-  pub start-end : n ≤ k → startOf i (rest k n xs) (rest k n ys) ≡ 0
-  unfolding startOf
-  start-end h = rw (rest-end k n xs h l)
-
-  pub size-end : n ≤ k → sizeOf i (rest k n xs) (rest k n ys) ≡ 0
-  unfolding sizeOf
-  size-end h = rw (rest-end k n xs h l)
 
 -- ---- zero entries
 

@@ -1,11 +1,13 @@
 // The pieces of one transfer in order of arrival, as a list of indexes and a list of lengths: searching, counting and joining them.
 ghost use mathlib.Core.Path.{_≡_};
 ghost use mathlib.Core.Bool.{false, _&&_};
-ghost use Prim.Native.Nat.{_+_, _*_, _≤_, _<_};
-ghost use lib.ListN.{length, take};
+ghost use Prim.Native.Nat.{_+_, _≤_, _<_};
+ghost use lib.ListN.{length, take, drop, replicate};
+ghost use Rattle.octets.specs.Octets.{put};
 ghost use Rattle.pieces.specs.Pieces as Spec;
 ghost use Rattle.pieces.specs.Pieces.{bundleMax};
 ghost use Rattle.pieces.specs.Search as Search;
+ghost use Rattle.pieces.specs.Note.{absent, noted, Right};
 
 // The most octets of a bundle: of the cell where its pieces lie, and the least output.
 pub const BUNDLE_MAX: usize = 4096;
@@ -16,17 +18,8 @@ pub struct Scan {
     pub above: bool,
 }
 
-// Where a piece lies in the cell.
-pub struct Extent {
-    pub start: usize,
-    pub length: usize,
-}
-
-// A place among the pieces, and where the piece there starts in the cell.
-pub struct Mark {
-    pub place: usize,
-    pub start: usize,
-}
+// The start that is noted for an index that is not held.
+const ABSENT: u16 = 65535;
 
 // Looks for an index among the first `held`.
 pub fn scan_for(indexes: &[u8], held: usize, index: u8) -> Scan
@@ -98,43 +91,58 @@ fn all_held(indexes: &[u8], held: usize, last: u8) -> bool
     all
 }
 
-// The mark from where the piece of an index is looked for.
-fn mark_past<'a>(indexes: &'a [u8], lengths: &'a [u16], held: usize, mark: Mark, index: u8) -> Mark
-    requires { ⌜ (held ≤ length (now indexes)) × (held ≤ length (now lengths)) × (held ≤ 64) × (mark .place ≤ held) × (mark .start ≤ 65535 * mark .place) ⌝ }
-    ensures { λ r. ⌜ r ≡ Search.markPast held (now (indexes .entry)) (now (lengths .entry)) mark index ⌝ }
+// Notes one piece more; of an index that stands twice the first piece counts. The lists are lent: by value they would be copied for each
+// piece.
+fn note_piece(starts: &mut [u16], sizes: &mut [u16], index: u8, start: u16, n: u16)
+    requires { ⌜ (length (now starts) ≡ 64) × (length (now sizes) ≡ 64) ⌝ }
+    ensures { λ _. ⌜ now (starts .exit) ≡ noted (now (starts .entry)) index start (now (starts .entry)) ⌝ }
+    ensures { λ _. ⌜ now (sizes .exit) ≡ noted (now (starts .entry)) index n (now (sizes .entry)) ⌝ }
 {
-    let from = mark.place;
-    let place = past_lower(indexes, held, from, index);
-    if from < place {
-        let n = lengths[from] as usize;
-        let start = mark.start + n;
-        return Mark { place, start };
+    let i = octets::octet_size(index);
+    if 64 <= i {
+        return;
     }
-    mark
+    if starts[i] != ABSENT {
+        return;
+    }
+    starts[i] = start;
+    sizes[i] = n;
 }
 
-// Where the piece of an index lies in the cell, looked for from a mark on.
-fn find_piece<'a>(
+// Notes where each index lies, in one pass over the pieces.
+fn note_pieces<'a>(
     indexes: &'a [u8],
     lengths: &'a [u16],
     held: usize,
-    mark: Mark,
-    index: u8,
-) -> Extent
-    requires { ⌜ (held ≤ length (now indexes)) × (held ≤ length (now lengths)) × (held ≤ 64) × (mark .place ≤ held) × (mark .start ≤ 65535 * mark .place) ⌝ }
-    ensures { λ r. ⌜ Search.Located index mark (take held (now (indexes .entry))) (take held (now (lengths .entry))) r ⌝ }
+    starts: &mut [u16],
+    sizes: &mut [u16],
+)
+    requires { ⌜ (held ≤ length (now indexes)) × (held ≤ length (now lengths)) × (Spec.sumOf (take held (now lengths)) ≤ bundleMax) ⌝ }
+    requires { ⌜ (now starts ≡ replicate 64 absent) × (now sizes ≡ replicate 64 0) ⌝ }
+    ensures { λ _. ⌜ Right (take held (now (indexes .entry))) (take held (now (lengths .entry))) (now (starts .exit)) (now (sizes .exit)) ⌝ }
 {
-    let mut start = mark.start;
-    let mut k = mark.place;
+    let mut start = 0u16;
+    let mut k = 0;
     while k < held {
-        let n = lengths[k] as usize;
-        if indexes[k] == index {
-            return Extent { start, length: n };
-        }
+        let n = lengths[k];
+        note_piece(starts, sizes, indexes[k], start, n);
         start += n;
         k += 1;
     }
-    Extent { start, length: 0 }
+}
+
+// Copies a piece of the cell to `at`; answers where the next one goes. An index that is not held has the size 0, as an empty piece has.
+fn copy_piece(start: u16, n: u16, cell: &[u8], at: usize, out: &mut [u8]) -> usize
+    requires { ⌜ (0 < n → start + n ≤ length (now cell)) × (at + n ≤ length (now out)) × (n ≤ bundleMax) ⌝ }
+    ensures { λ r. ⌜ (r ≡ at + n) × (now (out .exit) ≡ put (now (out .entry)) at (take n (drop start (now (cell .entry))))) ⌝ }
+{
+    if n == 0 {
+        return at;
+    }
+    let from = start as usize;
+    let to = from + n as usize;
+    octets::copy_into(out, at, &cell[from..to]);
+    at + n as usize
 }
 
 // Whether the entries from a count on are zero.
@@ -184,17 +192,14 @@ pub fn join<'a>(
     requires { ⌜ (Spec.sumOf (take held (now lengths)) ≤ length (now cell)) × (Spec.sumOf (take held (now lengths)) ≤ length (now out)) × (Spec.sumOf (take held (now lengths)) ≤ bundleMax) ⌝ }
     ensures { λ r. ⌜ Spec.Joined (Spec.joined false (last + 1) (take held (now (indexes .entry))) (take held (now (lengths .entry))) (now (cell .entry))) (now (out .entry)) r (now (out .exit)) ⌝ }
 {
-    let mut mark = Mark { place: 0, start: 0 };
+    let mut starts = [ABSENT; 64];
+    let mut sizes = [0u16; 64];
+    note_pieces(indexes, lengths, held, &mut starts, &mut sizes);
     let mut at = 0;
     let mut i = 0u8;
     while i <= last {
-        mark = mark_past(indexes, lengths, held, mark, i);
-        let p = find_piece(indexes, lengths, held, mark, i);
-        let from = p.start;
-        let n = p.length;
-        let to = from + n;
-        octets::copy_into(out, at, &cell[from..to]);
-        at += n;
+        let k = octets::octet_size(i);
+        at = copy_piece(starts[k], sizes[k], cell, at, out);
         i += 1;
     }
     at
