@@ -1,7 +1,7 @@
 //! Counts of the cases that generated calls have reached.
 
 use crate::generate::{RECEIVER_DAMAGE, SENDER_DAMAGE};
-use crate::model::receiver::{Contradiction, Distance, Observer, Phase, Step};
+use crate::model::receiver::{Contradiction, Distance, Observer, Phase, Step, CELL};
 
 /// Differences from the greatest number at the edges of the window table.
 pub const EDGES: [u32; 8] = [
@@ -36,8 +36,9 @@ pub struct Coverage {
     /// Steps 1 to 6; entry 0 is not used.
     pub steps: [u64; 7],
     pub contradictions: [u64; 4],
-    /// Bundles joined from one piece, from pieces in rising order, in another order, from 64.
-    pub joins: [u64; 4],
+    /// Bundles joined from one piece; from several in rising, falling or another order; from 64;
+    /// with an empty piece behind 4,096 octets.
+    pub joins: [u64; 6],
     /// Cancels inside the window, by the row's phase before.
     pub cancels: [u64; 5],
     pub finished: u64,
@@ -96,7 +97,14 @@ impl Coverage {
         );
         list(
             "join",
-            &["one piece", "rising order", "other order", "64 pieces"],
+            &[
+                "one piece",
+                "rising order",
+                "falling order",
+                "other order",
+                "64 pieces",
+                "an empty piece behind 4,096 octets",
+            ],
             &self.joins,
         );
         list(
@@ -187,12 +195,21 @@ impl Observer for Coverage {
         self.steps[number] += 1;
     }
 
-    fn join(&mut self, indexes: &[u8]) {
-        let rising = indexes.windows(2).all(|pair| pair[0] < pair[1]);
-        self.joins[0] += u64::from(indexes.len() == 1);
-        self.joins[1] += u64::from(indexes.len() > 1 && rising);
-        self.joins[2] += u64::from(!rising);
-        self.joins[3] += u64::from(indexes.len() == 64);
+    fn join(&mut self, indexes: &[u8], lengths: &[u16]) {
+        let several = indexes.len() > 1;
+        let rising = indexes.is_sorted();
+        let falling = indexes.iter().rev().is_sorted();
+        self.joins[0] += u64::from(!several);
+        self.joins[1] += u64::from(several && rising);
+        self.joins[2] += u64::from(several && falling);
+        self.joins[3] += u64::from(!rising && !falling);
+        self.joins[4] += u64::from(indexes.len() == 64);
+        let full = lengths
+            .iter()
+            .map(|&length| usize::from(length))
+            .sum::<usize>()
+            == CELL;
+        self.joins[5] += u64::from(full && lengths.last() == Some(&0));
     }
 
     fn cancel(&mut self, before: Phase) {

@@ -4,11 +4,12 @@ use crate::compare::{Lending, Received, ReceiverPair, Send, SenderPair, Sent, Tr
 use crate::coverage::{Coverage, FRAME_LENGTHS};
 use crate::ffi::{POOL, RECEIVER_IMAGE, SENDER_IMAGE};
 use crate::generate::{self, OpenRow, SenderEntries, BUNDLE, RECEIVER_DAMAGE, ROWS, SENDER_DAMAGE};
+use crate::model::receiver::CELL;
 use crate::random::Random;
 
 type Scenario = (&'static str, fn(&mut Trial));
 
-pub const SCENARIOS: [Scenario; 16] = [
+pub const SCENARIOS: [Scenario; 17] = [
     ("honest", honest),
     ("sent", sent),
     ("hostile", hostile),
@@ -17,6 +18,7 @@ pub const SCENARIOS: [Scenario; 16] = [
     ("places", places),
     ("hints", hints),
     ("dense", dense),
+    ("joins", joins),
     ("lending", lending),
     ("sound receivers", sound_receivers),
     ("unsound receivers", unsound_receivers),
@@ -305,6 +307,40 @@ fn chain_end(chain: &[u8]) -> usize {
         at += 2 + usize::from(chain[at + 1]);
     }
     at
+}
+
+/// Transfers whose pieces come in rising, falling or any order. What is handed out must be the bundle
+/// that was cut.
+fn joins(trial: &mut Trial) {
+    let mut receiver = ReceiverPair::start(trial);
+    let first = generate::first_number(&mut trial.random);
+    for transfer in 0..trial.random.within(1, 8) {
+        let number = first.wrapping_add(transfer as u32);
+        let length = match trial.random.below(2) {
+            0 => CELL,
+            _ => generate::bundle_length(&mut trial.random),
+        };
+        let bundle = trial.random.octets(length);
+        let mut pieces = generate::cut(&mut trial.random, &bundle, 63);
+        if trial.random.once_in(2) {
+            pieces.push(&[]);
+        }
+        let mut order: Vec<usize> = (0..pieces.len()).collect();
+        match trial.random.below(3) {
+            0 => {}
+            1 => order.reverse(),
+            _ => trial.random.shuffle(&mut order),
+        }
+        let mut handed_out: Vec<Vec<u8>> = Vec::new();
+        for index in order {
+            let end = index + 1 == pieces.len();
+            let frame = generate::piece(number, index as u32, end, &[], pieces[index]);
+            receiver.take(trial, &frame, &mut |bundle| {
+                handed_out.push(bundle.to_vec())
+            });
+        }
+        trial.check(handed_out == [bundle], "another bundle than was cut");
+    }
 }
 
 /// Wrong sizes of everything lent, alone and together.

@@ -47,33 +47,42 @@ fn main() {
         .nth(1)
         .map_or(ROUNDS, |rounds| rounds.parse().expect("number of rounds"));
     let mut random = Random::new(1);
-    let fresh = start_image();
     let full = full_image(&mut random);
-    let small_bundles = small_bundle_frames(&mut random);
-    let small_pieces = small_piece_frames(&mut random);
-    let large_pieces = large_piece_frames(&mut random);
-    let passed = passed_frames(&mut random);
-    let hints = hint_frames(&mut random);
-    let octet = vec![vec![0]; 32];
+    let small_bundles = Reception::of(small_bundle_frames(&mut random));
+    let small_pieces = Reception::of(small_piece_frames(&mut random));
+    let large_pieces = Reception::of(large_piece_frames(&mut random));
+    let passed = Reception::of(passed_frames(&mut random));
+    let hints = Reception::of(hint_frames(&mut random));
+    let octet = Reception::of(vec![vec![0]; 32]);
+    let full_octet = Reception {
+        image: full,
+        ..Reception::of(vec![vec![0]; 32])
+    };
+    let rising = join(&mut random, (0..64).collect());
+    let falling = join(&mut random, (0..64).rev().collect());
+    let mut shuffled: Vec<u32> = (0..64).collect();
+    random.shuffle(&mut shuffled);
+    let shuffled = join(&mut random, shuffled);
     let large = bundles(&mut random, 16, 4096);
     let small = bundles(&mut random, 512, 60);
     let tiny = bundles(&mut random, 1024, 8);
     let workloads = [
-        receiving("receive: bundles of 8 octets", &fresh, &small_bundles),
+        receiving("receive: bundles of 8 octets", &small_bundles),
         receiving(
             "receive: pieces of 4 octets, 8 transfers mixed",
-            &fresh,
             &small_pieces,
         ),
-        receiving("receive: pieces of 2,036 octets", &fresh, &large_pieces),
-        receiving("receive: paddings and unknown types", &fresh, &passed),
-        receiving("receive: chains of hints", &fresh, &hints),
-        receiving("receive: one zero octet, all rows Free", &fresh, &octet),
+        receiving("receive: pieces of 2,036 octets", &large_pieces),
+        receiving("receive: paddings and unknown types", &passed),
+        receiving("receive: chains of hints", &hints),
+        receiving("receive: one zero octet, all rows Free", &octet),
         receiving(
             "receive: one zero octet, all rows with 63 pieces",
-            &full,
-            &octet,
+            &full_octet,
         ),
+        receiving("join: 64 pieces of 64 octets, in order", &rising),
+        receiving("join: 64 pieces of 64 octets, in falling order", &falling),
+        receiving("join: 64 pieces of 64 octets, in random order", &shuffled),
         sending("place: 4,096 octets, frames of 2,048", 2048, &large),
         sending("place: 4,096 octets, frames of 512", 512, &large),
         sending("place: 60 octets, frames of 2,048", 2048, &small),
@@ -138,10 +147,52 @@ fn median(mut numbers: Vec<f64>) -> f64 {
     numbers[numbers.len() / 2]
 }
 
-fn start_image() -> [u8; RECEIVER_IMAGE] {
-    let mut image = [0; RECEIVER_IMAGE];
-    assert_eq!(ffi::receiver_start(&mut image), 0);
-    image
+/// What a board starts from and receives. Each frame is taken to its end, or to its first bundle.
+struct Reception {
+    image: [u8; RECEIVER_IMAGE],
+    pool: Vec<u8>,
+    frames: Vec<Vec<u8>>,
+    to_end: bool,
+}
+
+impl Reception {
+    /// By a fresh board, each frame to its end.
+    fn of(frames: Vec<Vec<u8>>) -> Reception {
+        let mut image = [0; RECEIVER_IMAGE];
+        assert_eq!(ffi::receiver_start(&mut image), 0);
+        Reception {
+            image,
+            pool: vec![0; POOL],
+            frames,
+            to_end: true,
+        }
+    }
+}
+
+/// The one call that completes a transfer, with all other pieces held in this order of arrival.
+fn join(random: &mut Random, order: Vec<u32>) -> Reception {
+    let pieces = order.iter().map(|&index| {
+        let end = index as usize + 1 == order.len();
+        generate::piece(7, index, end, &[], &random.octets(64))
+    });
+    let mut frames: Vec<Vec<u8>> = pieces.collect();
+    let completing = frames.pop().expect("one at least");
+    let mut held = Reception::of(vec![completing]);
+    held.to_end = false;
+    let mut output = vec![0; MIN_OUTPUT];
+    for frame in frames {
+        let mut result = [1; 4];
+        let number = ffi::receive(
+            &mut held.image,
+            &mut held.pool,
+            &frame,
+            0,
+            &mut output,
+            &mut result,
+        );
+        assert_eq!((number, result[0]), (0, 0), "a piece that is held");
+    }
+    held
 }
 
 /// All rows Open with as many pieces as they can hold while one is missing.
@@ -163,30 +214,28 @@ fn full_image(random: &mut Random) -> [u8; RECEIVER_IMAGE] {
     image
 }
 
-fn receiving<'a>(
-    name: &'static str,
-    start: &'a [u8; RECEIVER_IMAGE],
-    frames: &'a [Vec<u8>],
-) -> Workload<'a> {
+/// A pool and an output, each at the start of a page, so that all sides have them placed alike.
+fn lent(octets: &[u8]) -> (&'static mut [u8], &'static mut [u8]) {
+    const PAGE: usize = 4096;
+    let memory = vec![0; PAGE + POOL + MIN_OUTPUT].leak();
+    let start = memory.as_ptr().align_offset(PAGE);
+    let (pool, behind) = memory[start..].split_at_mut(POOL);
+    pool.copy_from_slice(octets);
+    (pool, &mut behind[..MIN_OUTPUT])
+}
+
+fn receiving<'a>(name: &'static str, reception: &'a Reception) -> Workload<'a> {
     type Call = fn(&mut [u8], &mut [u8], &[u8], u64, &mut [u8], &mut [u64; 4]) -> u32;
     let through_image = move |call: Call| {
-        let mut pool = vec![0; POOL];
-        let mut output = vec![0; MIN_OUTPUT];
+        let (pool, output) = lent(&reception.pool);
         move || {
             let mut work = Work::default();
-            let mut image = *start;
-            for frame in frames {
+            let mut image = reception.image;
+            for frame in &reception.frames {
                 let mut place = 0;
                 loop {
                     let mut result = [0; 4];
-                    let number = call(
-                        &mut image,
-                        &mut pool,
-                        frame,
-                        place,
-                        &mut output,
-                        &mut result,
-                    );
+                    let number = call(&mut image, pool, frame, place, output, &mut result);
                     assert_eq!(number, 0);
                     work.calls += 1;
                     if result[0] == 0 {
@@ -194,22 +243,23 @@ fn receiving<'a>(
                     }
                     work.bundle(&output[..result[1] as usize]);
                     place = result[2];
+                    if !reception.to_end {
+                        break;
+                    }
                 }
             }
             work
         }
     };
-    let state = receiver::State::decode(start).expect("a state");
-    let mut pool = vec![0; POOL];
-    let mut output = vec![0; MIN_OUTPUT];
+    let state = receiver::State::decode(&reception.image).expect("a state");
+    let (pool, output) = lent(&reception.pool);
     let own_state = move || {
         let mut work = Work::default();
         let mut state = state.clone();
-        for frame in frames {
+        for frame in &reception.frames {
             let mut place = 0;
             loop {
-                let answer =
-                    receiver::receive(&mut state, &mut pool, frame, place, &mut output, &mut ());
+                let answer = receiver::receive(&mut state, pool, frame, place, output, &mut ());
                 work.calls += 1;
                 match answer.expect("not refused") {
                     receiver::Answer::Finished => break,
@@ -217,6 +267,9 @@ fn receiving<'a>(
                         work.bundle(&output[..length]);
                         place = next as u64;
                     }
+                }
+                if !reception.to_end {
+                    break;
                 }
             }
         }

@@ -81,8 +81,8 @@ pub trait Observer {
     fn distance(&mut self, _case: Distance, _difference: u32, _number: u32) {}
     fn step(&mut self, _step: Step) {}
     fn cancel(&mut self, _before: Phase) {}
-    /// A bundle is joined from pieces that came in this order of indexes.
-    fn join(&mut self, _indexes: &[u8]) {}
+    /// A bundle is joined from pieces that came in this order, with these indexes and lengths.
+    fn join(&mut self, _indexes: &[u8], _lengths: &[u16]) {}
 }
 
 impl Observer for () {}
@@ -207,7 +207,7 @@ impl Row {
         }
         // The indexes held are different and none is above the last one, so their count decides.
         if self.last.is_some_and(|last| self.held == last + 1) {
-            observer.join(self.indexes());
+            observer.join(self.indexes(), &self.length[..usize::from(self.held)]);
             self.join(cell, output);
             *self = Row::empty(Phase::Done);
             return Step::Completed(after);
