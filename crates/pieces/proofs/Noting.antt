@@ -12,7 +12,8 @@ use lib.Dec.{eqb}
 use borrow.Author.Tests.{eqb-true, eqb-false, ne-eqb}
 use Rattle.octets.proofs.Flags.{bool, neither, cond-elim}
 use Rattle.pieces.specs.Pieces.{has, sumOf, startOf, sizeOf, piece}
-use Rattle.pieces.specs.Note.{absent, noted, Right}
+use Rattle.pieces.specs.Note.{absent, Right}
+use Rattle.pieces.specs.Search.{noted}
 use Rattle.pieces.proofs.Appending.{has-append}
 use Rattle.pieces.proofs.Joining.{piece-within}
 

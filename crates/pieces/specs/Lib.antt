@@ -1,3 +1,3 @@
 pub mod Pieces
-pub mod Search
 pub mod Note
+pub mod Search

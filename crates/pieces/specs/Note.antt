@@ -1,11 +1,10 @@
 -- The note from which pieces are joined (document 02, E4): "first note, in one pass over the pieces, where each index lies, then copy". It is
--- a list of starts and a list of sizes, with an entry for each index.
+-- a list of starts and a list of sizes, with an entry for each index from 0 to 63.
 use mathlib.Core.Path.{_≡_}
 use mathlib.Core.Bool.{cond}
 use mathlib.Core.List.{List}
 use Prim.Native.Nat.{ℕ, _<_}
-use lib.ListN.{getD, set}
-use lib.Dec.{eqb}
+use lib.ListN.{getD}
 use Rattle.pieces.specs.Pieces.{has, startOf, sizeOf}
 
 -- the start of an index that is not held: one that no piece has
@@ -16,7 +15,3 @@ absent = 65535
 pub record Right (is ls starts sizes : List ℕ) : Type 0 where
   pub start : (i : ℕ) → i < 64 → getD starts i 0 ≡ cond (has i is) (startOf i is ls) absent
   pub size : (i : ℕ) → i < 64 → getD sizes i 0 ≡ cond (has i is) (sizeOf i is ls) 0
-
--- what the code makes of a list of the note for one piece: x at its index i, unless a piece of that index is noted
-unfoldable pub noted : List ℕ → ℕ → ℕ → List ℕ → List ℕ
-noted starts i x xs = cond (eqb (getD starts i 0) absent) (set xs i x) xs

@@ -6,8 +6,8 @@ ghost use lib.ListN.{length, take, drop, replicate};
 ghost use Rattle.octets.specs.Octets.{put};
 ghost use Rattle.pieces.specs.Pieces as Spec;
 ghost use Rattle.pieces.specs.Pieces.{bundleMax};
+ghost use Rattle.pieces.specs.Note.{absent, Right};
 ghost use Rattle.pieces.specs.Search as Search;
-ghost use Rattle.pieces.specs.Note.{absent, noted, Right};
 
 // The most octets of a bundle: of the cell where its pieces lie, and the least output.
 pub const BUNDLE_MAX: usize = 4096;
@@ -91,12 +91,11 @@ fn all_held(indexes: &[u8], held: usize, last: u8) -> bool
     all
 }
 
-// Notes one piece more; of an index that stands twice the first piece counts. The lists are lent: by value they would be copied for each
-// piece.
+// Notes one piece more; of an index that stands twice the first piece counts. The lists are lent, and not passed and returned for each piece.
 fn note_piece(starts: &mut [u16], sizes: &mut [u16], index: u8, start: u16, n: u16)
     requires { ⌜ (length (now starts) ≡ 64) × (length (now sizes) ≡ 64) ⌝ }
-    ensures { λ _. ⌜ now (starts .exit) ≡ noted (now (starts .entry)) index start (now (starts .entry)) ⌝ }
-    ensures { λ _. ⌜ now (sizes .exit) ≡ noted (now (starts .entry)) index n (now (sizes .entry)) ⌝ }
+    ensures { λ _. ⌜ now (starts .exit) ≡ Search.noted (now (starts .entry)) index start (now (starts .entry)) ⌝ }
+    ensures { λ _. ⌜ now (sizes .exit) ≡ Search.noted (now (starts .entry)) index n (now (sizes .entry)) ⌝ }
 {
     let i = octets::octet_size(index);
     if 64 <= i {

@@ -31,8 +31,14 @@ add-result c = search needs
 same-length : tie.Need-same-length
 same-length c = search needs
 
+abbrev start : tie.After-copy-into → tie.Start
+start c = c .before .before .before .before .before .before
+
 returns-2 : tie.Need-returns-2
-returns-2 c = let a = c .before .before .before .before .before .before .before .before .args in (refl, rw (add-sub-cancel-left (a .start) (a .n)) at (c .before .before .copy-into .ensures))
+returns-2 c =
+    let copied = c .before .before in
+    let a = start copied .args in
+    (refl, rw (add-sub-cancel-left (a .start) (a .n)) at (copied .copy-into .ensures))
 
 pub copy-piece-spec : {M : Type 1} → statement M
 copy-piece-spec =

@@ -4,7 +4,8 @@ use Prim.Native.Nat.{ℕ}
 use native.Mathlib.Omega.{arith}
 use lib.ListN.{getD, List·getD-eq-default}
 use borrow.Author.Tests.{eq-eqb, ne-eqb}
-use Rattle.pieces.specs.Note.{absent, noted}
+use Rattle.pieces.specs.Note.{absent}
+use Rattle.pieces.specs.Search.{noted}
 use borrow.Author.Needs.{needs}
 use Rattle.pieces.proofs.note_piece.Statement.{statement}
 use Rattle.pieces.proofs.note_piece.Tie as tie
