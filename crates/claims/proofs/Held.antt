@@ -1,6 +1,6 @@
 -- Indexes held, with one more, and the weight of those that are lacking.
-use mathlib.Core.Path.{_≡_, refl, sym, _∙_}
-use mathlib.Core.Bool.{true, false, cond, _||_, or-assoc, or-false}
+use mathlib.Core.Path.{_≡_, refl, _∙_}
+use mathlib.Core.Bool.{true, false, cond, _||_, or-false}
 use mathlib.Core.Logic.{_⊎_, inl, inr}
 use mathlib.Core.List.{List, [], _∷_, _++_}
 use Prim.Native.Nat.{ℕ, zero, suc, _+_, _≤_, _<_}
@@ -9,11 +9,11 @@ use lib.Dec.{eqb}
 use borrow.Author.Tests.{eqb-true, eqb-false, ne-eqb}
 use Rattle.octets.proofs.Flags.{bool, both, or-cases}
 use Rattle.pieces.specs.Pieces.{has, hasAll}
+use Rattle.pieces.proofs.Appending.{has-append}
 
 pub has-snoc : (i j : ℕ) (is : List ℕ) → has i (is ++ j ∷ []) ≡ (has i is || eqb j i)
 unfolding has
-has-snoc i j [] = or-false (eqb j i)
-has-snoc i j (x ∷ is) = rw (has-snoc i j is) (sym (or-assoc (eqb x i) (has i is) (eqb j i)))
+has-snoc i j is = has-append i is (j ∷ []) ∙ rw (or-false (eqb j i))
 
 -- what holds of the indexes held and of the new one
 pub has-either : (P : ℕ → Type 0) (i : ℕ) (is : List ℕ) → ((j : ℕ) → has j is ≡ true → P j) → P i → (j : ℕ) → has j (is ++ i ∷ []) ≡ true → P j
