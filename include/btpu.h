@@ -105,7 +105,7 @@ extern "C" {
 #define BTPU_REFUSED_LENT 2          /* receive: pool not 65,536 octets, or output below 4,096 */
 #define BTPU_REFUSED_FRAME_LENGTH 3  /* receive: frame of 0 or more than 2,048 octets */
 #define BTPU_REFUSED_HEADER 4        /* receive: fewer than 4 octets left for a header */
-#define BTPU_REFUSED_FLAG 5          /* receive: a reserved flag bit is set */
+#define BTPU_REFUSED_FLAG 5          /* never given: reserved flag bits are ignored */
 #define BTPU_REFUSED_LENGTH 6        /* receive: a length runs past the frame */
 #define BTPU_REFUSED_HINTS 7         /* receive: a chain of hints runs past its message */
 #define BTPU_REFUSED_CONTENT 8       /* receive: content of a transfer message too short, or of a

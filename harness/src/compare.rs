@@ -63,6 +63,7 @@ const GUARD: usize = 64;
 const GUARD_OCTET: u8 = 0xc3;
 
 /// Octets lent to the exported side, with guards before and behind that nobody may write to.
+#[derive(Clone)]
 pub struct Lent {
     octets: Vec<u8>,
 }
@@ -115,6 +116,7 @@ pub enum Received {
 }
 
 /// The same receiver on both sides.
+#[derive(Clone)]
 pub struct ReceiverPair {
     image: Vec<u8>,
     pool: Vec<u8>,
@@ -126,6 +128,8 @@ pub struct ReceiverPair {
     exported_pool: Lent,
     exported_output: Lent,
     exported_frame: Lent,
+    /// The last call's number, and the entries of its result that carry meaning.
+    told: Vec<u64>,
 }
 
 impl ReceiverPair {
@@ -143,6 +147,7 @@ impl ReceiverPair {
             output_before: output.clone(),
             output,
             exported_frame: Lent::new(&[]),
+            told: Vec::new(),
         }
     }
 
@@ -189,6 +194,15 @@ impl ReceiverPair {
     pub fn greatest(&self) -> Option<u32> {
         let number = self.image[4..8].try_into().expect("four octets");
         (self.image[0] == 1).then_some(u32::from_be_bytes(number))
+    }
+
+    /// Checks that the last call told another receiver the same, and that it has the same state, pool
+    /// and output.
+    pub fn check_same(&self, trial: &Trial, other: &ReceiverPair) {
+        trial.check(self.told == other.told, "another answer");
+        trial.check(self.image == other.image, "another state");
+        trial.check(self.pool == other.pool, "another pool");
+        trial.check(self.output == other.output, "another output");
     }
 
     pub fn receive(
@@ -271,6 +285,12 @@ impl ReceiverPair {
             "written past what was lent",
         );
         let received = self.classify(trial, number, lent_result, result, frame.len());
+        self.told = match received {
+            Received::Refused(4..=8) => vec![u64::from(number), result[2]],
+            Received::Refused(_) => vec![u64::from(number)],
+            Received::Finished => vec![0, result[0]],
+            Received::Bundle { .. } => [&[0], &result[..]].concat(),
+        };
         self.image_before.copy_from_slice(&self.image);
         if number == 0 {
             self.pool_before.copy_from_slice(&self.pool);

@@ -1,6 +1,6 @@
 //! Counts of the cases that generated calls have reached.
 
-use crate::generate::{RECEIVER_DAMAGE, SENDER_DAMAGE};
+use crate::generate::{Change, RECEIVER_DAMAGE, SENDER_DAMAGE};
 use crate::model::receiver::{Contradiction, Distance, Observer, Phase, Step, CELL};
 
 /// Differences from the greatest number at the edges of the window table.
@@ -27,7 +27,7 @@ pub struct Coverage {
     pub receiving_calls: u64,
     pub sending_calls: u64,
     pub starts: u64,
-    /// By number; entry 0 counts the calls that were not refused.
+    /// By number; entry 0 counts the calls that were not refused. 5 is never given.
     pub refusals: [u64; 15],
     pub distances: [u64; 5],
     pub edges: [u64; EDGES.len()],
@@ -56,9 +56,25 @@ pub struct Coverage {
     /// Frames taken with at least 1,000 hints in one chain, and with at least 500 messages.
     pub long_chains: u64,
     pub dense_frames: u64,
+    /// Frames taken a second time with other reserved bits: well formed, and malformed.
+    pub reserved_frames: [u64; 2],
+    /// Their changed headers, of types 1 to 5 and of others; and by the bits changed, from the lowest.
+    pub reserved_types: [u64; 6],
+    pub reserved_bits: [u64; 3],
 }
 
 impl Coverage {
+    /// Counts a frame that was taken a second time with other reserved bits.
+    pub fn reserved(&mut self, changes: &[Change], malformed: bool) {
+        self.reserved_frames[usize::from(malformed)] += u64::from(!changes.is_empty());
+        for &(kind, bits) in changes {
+            self.reserved_types[usize::from(kind.min(6)) - 1] += 1;
+            for (place, count) in self.reserved_bits.iter_mut().enumerate() {
+                *count += u64::from(bits >> (4 + place) & 1);
+            }
+        }
+    }
+
     pub fn calls(&self) -> u64 {
         self.receiving_calls + self.sending_calls + self.starts
     }
@@ -74,7 +90,8 @@ impl Coverage {
         };
         let numbers: Vec<String> = (0..15).map(|number| number.to_string()).collect();
         let numbers: Vec<&str> = numbers.iter().map(String::as_str).collect();
-        list("refusal", &numbers[1..], &self.refusals[1..]);
+        list("refusal", &numbers[1..5], &self.refusals[1..5]);
+        list("refusal", &numbers[6..], &self.refusals[6..]);
         list(
             "window",
             &["G absent", "0", "new", "outside", "behind"],
@@ -151,6 +168,21 @@ impl Coverage {
             "frame",
             &["chain of 1,000 hints", "500 messages"],
             &[self.long_chains, self.dense_frames],
+        );
+        list(
+            "other reserved bits",
+            &["well-formed frame", "malformed frame"],
+            &self.reserved_frames,
+        );
+        list(
+            "other reserved bits in type",
+            &["1", "2", "3", "4", "5", "6 to 255"],
+            &self.reserved_types,
+        );
+        list(
+            "other reserved bit",
+            &["0x10", "0x20", "0x40"],
+            &self.reserved_bits,
         );
         cases
     }

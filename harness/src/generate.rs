@@ -105,6 +105,33 @@ pub fn pack(random: &mut Random, messages: &[Vec<u8>], size: usize) -> Vec<Vec<u
     frames
 }
 
+/// A header with other reserved bits: the message's type, and the bits that were changed.
+pub type Change = (u8, u8);
+
+/// The frame with reserved flag bits set or cleared at random in the headers of its messages, up to
+/// the one that runs past its end.
+pub fn with_reserved_bits(random: &mut Random, frame: &[u8]) -> (Vec<u8>, Vec<Change>) {
+    let mut octets = frame.to_vec();
+    let mut changes = Vec::new();
+    let mut at = 0;
+    while at < octets.len() {
+        if octets[at] == 0 {
+            at += 1;
+            continue;
+        }
+        let Some(&[kind, flags, high, low]) = octets[at..].first_chunk::<4>() else {
+            break;
+        };
+        let bits = (random.below(8) as u8) << 4;
+        octets[at + 1] = flags & 0x8f | bits;
+        if octets[at + 1] != flags {
+            changes.push((kind, flags & 0x70 ^ bits));
+        }
+        at += 4 + u32::from_be_bytes([0, flags & 0x0f, high, low]) as usize;
+    }
+    (octets, changes)
+}
+
 /// Good places of a well-formed frame.
 pub fn good_places(frame: &[u8]) -> Vec<u64> {
     let mut places = vec![0];
@@ -286,6 +313,9 @@ pub fn hostile_frame(random: &mut Random, mut greatest: Option<u32>) -> Vec<u8> 
     if random.once_in(20) {
         fill_up(random, &mut frame);
     }
+    if random.once_in(4) {
+        return with_reserved_bits(random, &frame).0;
+    }
     frame
 }
 
@@ -297,11 +327,11 @@ pub fn fill_up(random: &mut Random, frame: &mut Vec<u8>) {
     }
 }
 
-/// Damages a frame: bits, cuts, length fields, flags, hint chains, octets added.
+/// Damages a frame: bits, cuts, length fields, hint chains, octets added.
 pub fn damage_frame(random: &mut Random, frame: &mut Vec<u8>) {
     let places = good_places(frame);
     let start = places[random.below(places.len())] as usize;
-    match random.below(8) {
+    match random.below(7) {
         0 | 1 => {
             for _ in 0..random.within(1, 3) {
                 let at = random.below(frame.len());
@@ -323,17 +353,12 @@ pub fn damage_frame(random: &mut Random, frame: &mut Vec<u8>) {
             }
         }
         4 => {
-            if start + 1 < frame.len() && frame[start] != 0 {
-                frame[start + 1] |= random.pick(&[0x10, 0x20, 0x40]);
-            }
-        }
-        5 => {
             // H set where no chain stands, so that content is read as hints.
             if start + 1 < frame.len() && frame[start] != 0 {
                 frame[start + 1] |= 0x80;
             }
         }
-        6 => {
+        5 => {
             let kind = random.pick(&[2, 3, 4, 5]);
             let length = random.below(10);
             let content = random.octets(length);

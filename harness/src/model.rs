@@ -1,4 +1,5 @@
-//! Receiver and sender of document 01 in plain Rust, written from that paper alone.
+//! Receiver and sender of document 01, as the requests of document 02 leave it, in plain Rust, written
+//! from these papers alone.
 //!
 //! The exported interface is compared with this model, and its speed is measured against it.
 
@@ -8,7 +9,7 @@ pub mod receiver;
 pub mod sender;
 pub mod wire;
 
-/// The cases of the paper's table of refusals.
+/// The cases of the paper's table of refusals; 5 is never given.
 #[derive(Clone, Copy, Debug, PartialEq, Eq)]
 pub enum Refusal {
     UnsoundState,
@@ -32,7 +33,6 @@ impl Refusal {
             Refusal::PoolOrOutputSize => 2,
             Refusal::FrameLength => 3,
             Refusal::Malformed(wire::Fault::HeaderCut, _) => 4,
-            Refusal::Malformed(wire::Fault::ReservedFlag, _) => 5,
             Refusal::Malformed(wire::Fault::LengthPastFrame, _) => 6,
             Refusal::Malformed(wire::Fault::HintsPastMessage, _) => 7,
             Refusal::Malformed(wire::Fault::ContentLength, _) => 8,

@@ -9,7 +9,7 @@ use crate::random::Random;
 
 type Scenario = (&'static str, fn(&mut Trial));
 
-pub const SCENARIOS: [Scenario; 17] = [
+pub const SCENARIOS: [Scenario; 18] = [
     ("honest", honest),
     ("sent", sent),
     ("hostile", hostile),
@@ -19,6 +19,7 @@ pub const SCENARIOS: [Scenario; 17] = [
     ("hints", hints),
     ("dense", dense),
     ("joins", joins),
+    ("reserved bits", reserved_bits),
     ("lending", lending),
     ("sound receivers", sound_receivers),
     ("unsound receivers", unsound_receivers),
@@ -77,12 +78,22 @@ fn refused_between(trial: &mut Trial, receiver: &mut ReceiverPair, frame: &[u8])
     trial.check(received == Received::Refused(number), "refusal expected");
 }
 
+/// Sets reserved bits in the headers of frames, as another head may.
+fn set_reserved_bits(trial: &mut Trial, frames: &mut [Vec<u8>]) {
+    for frame in frames {
+        *frame = generate::with_reserved_bits(&mut trial.random, frame).0;
+    }
+}
+
 fn honest(trial: &mut Trial) {
     let mut receiver = ReceiverPair::start(trial);
     let transfers = trial.random.within(1, 24);
     let messages = generate::honest_messages(&mut trial.random, transfers);
     let size = trial.random.pick(&[100, 400, 1000, 2048]);
-    let frames = generate::pack(&mut trial.random, &messages, size);
+    let mut frames = generate::pack(&mut trial.random, &messages, size);
+    if trial.random.once_in(4) {
+        set_reserved_bits(trial, &mut frames);
+    }
     for (place, frame) in frames.iter().enumerate() {
         receiver.take(trial, frame, &mut |_| {});
         if trial.random.once_in(8) {
@@ -136,6 +147,9 @@ fn sent(trial: &mut Trial) {
     }
     if sender.send(trial, Send::Flush) == Sent::Ready {
         frames.push(sender.frame().to_vec());
+    }
+    if trial.random.once_in(4) {
+        set_reserved_bits(trial, &mut frames);
     }
     if trial.random.once_in(2) {
         let mut handed_out: Vec<Vec<u8>> = Vec::new();
@@ -340,6 +354,62 @@ fn joins(trial: &mut Trial) {
             });
         }
         trial.check(handed_out == [bundle], "another bundle than was cut");
+    }
+}
+
+/// Two receivers with one state take the same frames, good and damaged, the second with other reserved
+/// bits in the headers. Nothing that they answer or leave may differ.
+fn reserved_bits(trial: &mut Trial) {
+    let mut receiver = some_receiver(trial);
+    let mut second = receiver.clone();
+    for _ in 0..trial.random.within(4, 16) {
+        let mut frame = match trial.random.below(8) {
+            0 => generate::random_frame(&mut trial.random),
+            _ => generate::hostile_frame(&mut trial.random, receiver.greatest()),
+        };
+        if trial.random.once_in(3) && !frame.is_empty() {
+            generate::damage_frame(&mut trial.random, &mut frame);
+        }
+        let (other, changes) = generate::with_reserved_bits(&mut trial.random, &frame);
+        let mut place = match trial.random.below(8) {
+            0 => trial.random.below(frame.len() + 2) as u64,
+            _ => 0,
+        };
+        loop {
+            let received = receiver.receive(trial, &frame, place, Lending::default());
+            second.receive(trial, &other, place, Lending::default());
+            receiver.check_same(trial, &second);
+            match received {
+                Received::Bundle { next, .. } => {
+                    place = next;
+                    continue;
+                }
+                Received::Finished => trial.coverage.reserved(&changes, false),
+                Received::Refused(4..=8) => trial.coverage.reserved(&changes, true),
+                Received::Refused(_) => {}
+            }
+            break;
+        }
+    }
+}
+
+/// Every type of message, without and with H, and with all reserved bits that it may have.
+pub fn reserved_bits_of_every_type(trial: &mut Trial) {
+    let content = [2, 1, 0xff, 0, 0, 0, 5, 0, 0, 0, 0, 0x41];
+    for kind in 1..=255 {
+        for flag in [0, 0x80] {
+            let before = some_receiver(trial);
+            let mut frame = generate::message(kind, &[], &content);
+            frame[1] |= flag;
+            let mut receiver = before.clone();
+            receiver.receive(trial, &frame, 0, Lending::default());
+            for bits in 1..8 {
+                let mut second = before.clone();
+                frame[1] = flag | bits << 4;
+                second.receive(trial, &frame, 0, Lending::default());
+                receiver.check_same(trial, &second);
+            }
+        }
     }
 }
 

@@ -32,6 +32,7 @@ fn every_scenario_agrees_and_every_case_is_reached() {
     for (case, count) in coverage.cases() {
         assert!(count >= FLOOR, "{case}: only {count}");
     }
+    assert_eq!(coverage.refusals[5], 0);
     assert!(coverage.receiving_calls >= 120_000);
     assert!(coverage.sending_calls >= 60_000);
     assert!(coverage.calls() >= 200_000);
@@ -48,6 +49,14 @@ fn every_fill_of_the_smallest_and_the_greatest_frame() {
         }
     }
     assert_eq!(coverage.sending_calls, (128 + 129 + 2048) * 16);
+}
+
+#[test]
+fn every_type_with_every_reserved_bit() {
+    let mut coverage = Coverage::default();
+    let mut trial = Trial::new("every type", SEED, &mut coverage);
+    scenario::reserved_bits_of_every_type(&mut trial);
+    assert_eq!(coverage.receiving_calls, 255 * 2 * 8);
 }
 
 #[test]

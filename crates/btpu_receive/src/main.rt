@@ -126,7 +126,6 @@ fn write_bundle(origin: Origin, length: usize, output: &[u8]) {
 fn fault_words(fault: Fault) {
     match fault {
         Fault::ShortHeader => text(b"fewer than 4 octets are left for a header"),
-        Fault::ReservedFlag => text(b"a reserved flag bit is set"),
         Fault::PastFrame => text(b"the length runs past the frame"),
         Fault::PastMessage => text(b"the hint chain runs past the message"),
         Fault::BadContent => text(b"the content has no length that its type may have"),

@@ -18,6 +18,7 @@
 --     Sending         the sender's half: the frames of a use carry the bundles placed to their end
 --     EndToEnd        demand 2
 --     Uses            a use of a sender, computed
+--     Computing       the definitions that a receiving call computes with
 --     Marked          the marked cases, computed
 pub mod Held
 pub mod Track
@@ -38,4 +39,5 @@ pub mod Flows
 pub mod Sending
 pub mod EndToEnd
 pub mod Uses
+pub mod Computing
 pub mod Marked

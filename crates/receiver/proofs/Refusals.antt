@@ -14,7 +14,7 @@ use Rattle.wire.specs.Frame.{checked}
 use Rattle.wire.specs.Message.{faultNumber}
 use Rattle.wire.specs.declared.Checked.{Checked}
 use Rattle.wire.specs.declared.Checked.the-variants as Frame
-use Rattle.wire.specs.declared.Fault.the-variants.{ShortHeader, ReservedFlag, PastFrame, PastMessage, BadContent}
+use Rattle.wire.specs.declared.Fault.the-variants.{ShortHeader, PastFrame, PastMessage, BadContent}
 use Rattle.pieces.specs.Pieces.{bundleMax}
 use Rattle.rows.specs.Message.{Draft, Board, frameMax, messagesFrom}
 use Rattle.receiver.specs.Receive.{refusalNumber, frameRefusal, replied, refusal, treat, receive}
@@ -23,7 +23,7 @@ use Rattle.rows.specs.State.{sound}
 use Rattle.receiver.specs.declared.Admission.the-variants.{Admitted, Denied}
 use Rattle.receiver.specs.declared.Answer.the-variants.{Refused}
 use Rattle.receiver.specs.declared.Refusal.{Refusal}
-use Rattle.receiver.specs.declared.Refusal.the-variants.{Malformed, Misplaced}
+use Rattle.receiver.specs.declared.Refusal.the-variants.{Unsound, BufferSize, FrameSize, Malformed, Misplaced}
 
 clash : {A : Type 0} → true ≡ false → A
 clash e = absurd (let z : _≡_ {A = ℕ} 0 1 = cc in omega arith)
@@ -104,7 +104,7 @@ isMisplaced (Frame.Malformed fault at) = false
 isMisplaced Frame.Misplaced = true
 
 abbrev frameCases : Checked → List (ℕ × Bool)
-frameCases c = (4, isFault 4 c) ∷ (5, isFault 5 c) ∷ (6, isFault 6 c) ∷ (7, isFault 7 c) ∷ (8, isFault 8 c) ∷ (9, isMisplaced c) ∷ []
+frameCases c = (4, isFault 4 c) ∷ (6, isFault 6 c) ∷ (7, isFault 7 c) ∷ (8, isFault 8 c) ∷ (9, isMisplaced c) ∷ []
 
 -- the first number whose case holds, 0 for none
 unfoldable pub first : List (ℕ × Bool) → ℕ
@@ -115,11 +115,21 @@ unfoldable pub numberOf : Option Refusal → ℕ
 numberOf none = 0
 numberOf (some q) = refusalNumber q
 
+-- 5 is never given
+pub never-five : (q : Refusal) → refusalNumber q ≡ 5 → ⊥
+never-five Unsound e = omega arith
+never-five BufferSize e = omega arith
+never-five FrameSize e = omega arith
+never-five (Malformed ShortHeader at) e = omega arith
+never-five (Malformed PastFrame at) e = omega arith
+never-five (Malformed PastMessage at) e = omega arith
+never-five (Malformed BadContent at) e = omega arith
+never-five Misplaced e = omega arith
+
 frame-order : (c : Checked) → numberOf (frameRefusal c) ≡ first (frameCases c)
 unfolding numberOf first frameRefusal
 frame-order Frame.Accepted = refl
 frame-order (Frame.Malformed ShortHeader at) = refl
-frame-order (Frame.Malformed ReservedFlag at) = refl
 frame-order (Frame.Malformed PastFrame at) = refl
 frame-order (Frame.Malformed PastMessage at) = refl
 frame-order (Frame.Malformed BadContent at) = refl

@@ -1,13 +1,13 @@
 -- Laws of reading at a position of the frame: padding, and a header in the frame's own positions.
 use mathlib.Core.Path.{_≡_, refl, _∙_}
-use mathlib.Core.Bool.{cond, not}
+use mathlib.Core.Bool.{cond}
 use mathlib.Core.List.{List, _∷_}
-use Prim.Native.Nat.{ℕ, zero, suc, _+_, _-_, _/_, _%_, _<_}
+use Prim.Native.Nat.{ℕ, zero, suc, _+_, _-_, _<_}
 use native.Mathlib.Omega.{arith}
 use lib.ListN.{length, getD, drop, length-drop}
-use lib.Seq.{drop-cons, getD-drop}
-use lib.Dec.{ltb, eqb}
-use Rattle.wire.specs.declared.Fault.the-variants.{ShortHeader, ReservedFlag, PastFrame}
+use lib.Seq.{drop-cons}
+use lib.Dec.{ltb}
+use Rattle.wire.specs.declared.Fault.the-variants.{ShortHeader, PastFrame}
 use Rattle.wire.specs.declared.Kind.the-variants.{Skipped}
 use Rattle.wire.specs.declared.Reading.the-variants.{Good}
 use Rattle.wire.specs.Message.{Read, bad, good, skipped, kind, contentLength, span, answer}
@@ -28,9 +28,8 @@ abbrev pub headerAt : List ℕ → ℕ → Read
 headerAt frame at =
     let size = lengthField (drop at frame) in
     cond (ltb (length frame - at) 4) (bad ShortHeader)
-    (cond (not (eqb (getD frame (at + 1) 0 / 16 % 8) 0)) (bad ReservedFlag)
     (cond (ltb (length frame - at) (4 + size)) (bad PastFrame)
-    (bodied (drop at frame) size)))
+    (bodied (drop at frame) size))
 
 module _ (frame : List ℕ) (at : ℕ) (here : at < length frame) where
   padding : getD frame at 0 ≡ 0 → read (drop at frame) ≡ good skipped (zeros (drop at frame))
@@ -43,7 +42,7 @@ module _ (frame : List ℕ) (at : ℕ) (here : at < length frame) where
 
   headed-at : headed (drop at frame) ≡ headerAt frame at
   unfolding headed
-  headed-at = simp (length-drop, getD-drop)
+  headed-at = simp length-drop
 
   pub header : (getD frame at 0 ≡ 0 → ⊥) → read (drop at frame) ≡ headerAt frame at
   header n = rw (drop-cons frame at 0) (read-other _ _ n) ∙ headed-at

@@ -1,13 +1,13 @@
 -- What a caller knows of a span that was read: the frame's octets from its start to its end are the message's content.
 use mathlib.Core.Path.{_≡_, refl, sym, ap, _∙_}
-use mathlib.Core.Bool.{Bool, true, false, cond, not}
+use mathlib.Core.Bool.{Bool, true, false, cond}
 use mathlib.Core.List.{List, [], _∷_}
-use Prim.Native.Nat.{ℕ, zero, suc, _+_, _-_, _/_, _%_, _≤_, _<_}
+use Prim.Native.Nat.{ℕ, zero, suc, _+_, _-_, _≤_, _<_}
 use native.Mathlib.Nat.{sub-zero}
 use native.Mathlib.Omega.{arith}
 use lib.ListN.{length, getD, take, drop, length-take, length-drop}
 use lib.Seq.{drop-drop, take-nil}
-use lib.Dec.{ltb, leb, eqb}
+use lib.Dec.{ltb, leb}
 use borrow.Author.Tests.{ltb-false}
 use Rattle.wire.specs.declared.Kind.{Kind}
 use Rattle.wire.specs.declared.Kind.the-variants.{Skipped, Bundle, Segment, End, Cancel}
@@ -75,7 +75,6 @@ holds-headed : (xs : List ℕ) → Holds xs (headed xs)
 unfolding headed bodied
 holds-headed xs =
     holds-cond (ltb (length xs) 4) (λ _. refused)
-    λ _. holds-cond (not (eqb (getD xs 1 0 / 16 % 8) 0)) (λ _. refused)
     λ _. holds-cond (ltb (length xs) (4 + lengthField xs)) (λ _. refused)
     λ e. holds-body (kindOf (getD xs 0 0)) (lengthField xs) xs (ltb-false _ _ e) (hints (leb 128 (getD xs 1 0)) (take (lengthField xs) (drop 4 xs))) (tail-hints _ _)
 

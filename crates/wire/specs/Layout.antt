@@ -1,13 +1,13 @@
 -- Reading the message at the head of what remains of a frame (document 01, "Octets of a frame").
-use mathlib.Core.Bool.{Bool, true, cond, not}
+use mathlib.Core.Bool.{Bool, true, cond}
 use mathlib.Core.List.{List, [], _∷_}
-use Prim.Native.Nat.{ℕ, zero, suc, _+_, _*_, _/_, _%_}
+use Prim.Native.Nat.{ℕ, zero, suc, _+_, _*_, _%_}
 use lib.ListN.{length, getD, take, drop}
 use lib.Dec.{ltb, leb, eqb}
 use Rattle.octets.specs.Octets.{number}
 use Rattle.wire.specs.declared.Kind.{Kind}
 use Rattle.wire.specs.declared.Kind.the-variants.{Skipped, Bundle, Segment, End, Cancel}
-use Rattle.wire.specs.declared.Fault.the-variants.{ShortHeader, ReservedFlag, PastFrame, PastMessage, BadContent}
+use Rattle.wire.specs.declared.Fault.the-variants.{ShortHeader, PastFrame, PastMessage, BadContent}
 use Rattle.wire.specs.declared.Hints.{Hints}
 use Rattle.wire.specs.declared.Hints.the-variants.{Left, Overrun}
 use Rattle.wire.specs.Message.{Message, skipped, bundle, segment, last, cancel, Read, bad, good}
@@ -86,13 +86,13 @@ body Cancel c size = content Cancel c size
 unfoldable pub bodied : List ℕ → ℕ → Read
 bodied xs size = body (kindOf (getD xs 0 0)) (hints (leb 128 (getD xs 1 0)) (take size (drop 4 xs))) (4 + size)
 
--- The message with a header at the head, or the first refusal of 4 to 8 that applies.
+-- The message with a header at the head, or the first refusal of 4 to 8 that applies. The reserved flag bits "MUST be ignored by the
+-- receiver" (document 003, section 7.1), in every type.
 unfoldable pub headed : List ℕ → Read
 headed xs =
     cond (ltb (length xs) 4) (bad ShortHeader)
-    (cond (not (eqb (getD xs 1 0 / 16 % 8) 0)) (bad ReservedFlag)
     (cond (ltb (length xs) (4 + lengthField xs)) (bad PastFrame)
-    (bodied xs (lengthField xs))))
+    (bodied xs (lengthField xs)))
 
 -- Nothing starts where no octet is left.
 unfoldable pub read : List ℕ → Read

@@ -5,7 +5,7 @@ use lib.ListN.{length}
 use Rattle.wire.specs.declared.Kind.{Kind}
 use Rattle.wire.specs.declared.Kind.the-variants.{Skipped, Bundle, Segment, End, Cancel}
 use Rattle.wire.specs.declared.Fault.{Fault}
-use Rattle.wire.specs.declared.Fault.the-variants.{ShortHeader, ReservedFlag, PastFrame, PastMessage, BadContent}
+use Rattle.wire.specs.declared.Fault.the-variants.{ShortHeader, PastFrame, PastMessage, BadContent}
 use Rattle.wire.specs.declared.Span.{Span}
 use Rattle.wire.specs.declared.Reading.{Reading}
 use Rattle.wire.specs.declared.Reading.the-variants.{Good, Bad}
@@ -23,10 +23,9 @@ pub data Read : Type 0 where
   bad : Fault → Read
   good : Message → ℕ → Read
 
--- Document 01's numbers of refusal.
+-- Document 01's numbers of refusal; 5 is never given.
 abbrev pub faultNumber : Fault → ℕ
 faultNumber ShortHeader = 4
-faultNumber ReservedFlag = 5
 faultNumber PastFrame = 6
 faultNumber PastMessage = 7
 faultNumber BadContent = 8

@@ -14,10 +14,9 @@ pub enum Kind {
     Cancel,
 }
 
-// Refusals 4 to 8 of document 01, in that order.
+// Refusals 4, 6, 7 and 8 of document 01, in that order; 5 is never given.
 pub enum Fault {
     ShortHeader,
-    ReservedFlag,
     PastFrame,
     PastMessage,
     BadContent,
@@ -53,7 +52,6 @@ pub fn fault_number(fault: Fault) -> u32
 {
     match fault {
         Fault::ShortHeader => 4,
-        Fault::ReservedFlag => 5,
         Fault::PastFrame => 6,
         Fault::PastMessage => 7,
         Fault::BadContent => 8,
@@ -184,9 +182,6 @@ pub fn read_message(frame: &[u8], at: usize) -> Reading
     }
     if frame.len() - at < 4 {
         return Reading::Bad(Fault::ShortHeader);
-    }
-    if frame[at + 1] / 16 % 8 != 0 {
-        return Reading::Bad(Fault::ReservedFlag);
     }
     let size = length_field(frame, at);
     if frame.len() - at - 4 < size {

@@ -12,7 +12,7 @@ use native.Mathlib.Omega.{arith}
 use lib.ListN.{length, length-append, replicate, length-replicate}
 use lib.Seq.{take-append-seam}
 use lib.Dec.{leb}
-use borrow.Author.Tests.{le-ltb, lt-leb, le-leb, eq-eqb, leb-true}
+use borrow.Author.Tests.{le-ltb, lt-leb, le-leb, leb-true}
 use Rattle.octets.specs.Octets.{be32, put}
 use Rattle.octets.proofs.Flags.{cond-elim}
 use Rattle.octets.proofs.Put.{put-put}
@@ -44,7 +44,7 @@ module _ (t a b c : ℕ) (ys rest : List ℕ) (plain : a < 16) (size : a * 65536
   unfolding headed
   headed-back f =
       let n : length (ys ++ rest) ≡ length ys + length rest = length-append ys rest in
-      rw (field, le-ltb (length (t ∷ a ∷ b ∷ c ∷ (ys ++ rest))) 4 (omega arith), eq-eqb (a / 16 % 8) 0 (omega arith), le-ltb (length (t ∷ a ∷ b ∷ c ∷ (ys ++ rest))) (4 + length ys) (omega arith)) (bodied-back f)
+      rw (field, le-ltb (length (t ∷ a ∷ b ∷ c ∷ (ys ++ rest))) 4 (omega arith), le-ltb (length (t ∷ a ∷ b ∷ c ∷ (ys ++ rest))) (4 + length ys) (omega arith)) (bodied-back f)
 
 pub written-back : (t a b c : ℕ) (ys rest : List ℕ) → 0 < t → a < 16 → a * 65536 + b * 256 + c ≡ length ys → fitting (kindOf t) (length ys) ≡ true
     → read (t ∷ a ∷ b ∷ c ∷ (ys ++ rest)) ≡ good (message (kindOf t) ys) (4 + length ys)

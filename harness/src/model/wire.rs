@@ -6,7 +6,6 @@ pub const MAX_FRAME: usize = 2048;
 #[derive(Clone, Copy, Debug, PartialEq, Eq)]
 pub enum Fault {
     HeaderCut,
-    ReservedFlag,
     LengthPastFrame,
     HintsPastMessage,
     ContentLength,
@@ -35,8 +34,8 @@ const SEGMENT: u8 = 3;
 const END: u8 = 4;
 const CANCEL: u8 = 5;
 
+/// The only flag that is looked at: the three reserved bits behind it are ignored in every type.
 const HINTS: u8 = 0x80;
-const RESERVED: u8 = 0x70;
 
 /// Reads the message that starts at `at`, which must lie inside the frame, and the place after it.
 #[inline]
@@ -49,9 +48,6 @@ pub fn read(frame: &[u8], at: usize) -> Result<(Message<'_>, usize), Fault> {
     let Some((&[kind, flags, high, low], rest)) = rest.split_first_chunk::<4>() else {
         return Err(Fault::HeaderCut);
     };
-    if flags & RESERVED != 0 {
-        return Err(Fault::ReservedFlag);
-    }
     let length = u32::from_be_bytes([0, flags & 0x0f, high, low]) as usize;
     let Some(body) = rest.get(..length) else {
         return Err(Fault::LengthPastFrame);
