@@ -1,4 +1,4 @@
--- The proofs of demands 2 and 3, laws that their premises can be met, and the marked cases.
+-- The proofs of demands 2 and 3, laws that their premises can be met, the marked cases, and request E2.
 --     Held            indexes held, with one more, and the weight of those that lack
 --     Track           one record's transfers on one board: a small machine, number by number
 --     Pieces          the row of one number, and its track
@@ -20,6 +20,7 @@
 --     Uses            a use of a sender, computed
 --     Computing       the definitions that a receiving call computes with
 --     Marked          the marked cases, computed
+--     Reserved        reserved flag bits are ignored, request E2
 pub mod Held
 pub mod Track
 pub mod Pieces
@@ -41,3 +42,4 @@ pub mod EndToEnd
 pub mod Uses
 pub mod Computing
 pub mod Marked
+pub mod Reserved

@@ -4,3 +4,4 @@ pub mod Demand3
 pub mod Marked
 pub mod Use
 pub mod Demand2
+pub mod Reserved

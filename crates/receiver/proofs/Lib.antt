@@ -4,8 +4,10 @@
 --     Pool       cells after one of them is put
 --     Ready      every message and every call leaves a sound state sound
 --     Calls      a receiving call by cases
+--     Reserved   reserved flag bits are ignored
 pub mod Limit
 pub mod Refusals
 pub mod Pool
 pub mod Ready
 pub mod Calls
+pub mod Reserved
