@@ -19,10 +19,6 @@ use Rattle.wire.specs.Layout as Layout
 use Rattle.wire.specs.Frame.{Scan, prepend, follow, scan, scanned, checked}
 use Rattle.wire.specs.Reserved.{withReserved, said, SameButReserved, same, padded, headed}
 
--- every octet with the same flag H and the same bits of the length is reached
-pub any-reserved : (x y : ℕ) → x / 128 ≡ y / 128 → x % 16 ≡ y % 16 → y ≡ withReserved (y / 16) x
-any-reserved x y h l = omega arith
-
 length-parts : (n : ℕ) (xs : List ℕ) → length xs ≡ length (take n xs) + length (drop n xs)
 length-parts n xs = ap length (sym (take-append-drop n xs)) ∙ length-append (take n xs) (drop n xs)
 
@@ -60,6 +56,10 @@ same-flag bits x = go (bool (leb 128 x))
 
 same-top : (bits x : ℕ) → x % 16 ≡ withReserved bits x % 16
 same-top bits x = omega arith
+
+-- every octet with the same flag H and the same bits of the length is reached
+pub any-reserved : (x y : ℕ) → x / 128 ≡ y / 128 → x % 16 ≡ y % 16 → y ≡ withReserved (y / 16) x
+any-reserved x y h l = omega arith
 
 same-headed : (xs ys : List ℕ) (t x bits a b : ℕ) → length xs ≡ length ys → take (said x a b) xs ≡ take (said x a b) ys
     → Layout.headed (suc t ∷ x ∷ a ∷ b ∷ xs) ≡ Layout.headed (suc t ∷ withReserved bits x ∷ a ∷ b ∷ ys)
