@@ -29,7 +29,7 @@ use Rattle.rows.specs.Message.{Board, Handed, Outcome, cellAt, handedOf, moved,
 use Rattle.rows.proofs.Rows.{length-freed, getD-freed}
 use Rattle.messages.proofs.Cells.{length-cell, length-put-cell}
 use Rattle.receiver.proofs.Pool.{cell-put, cell-other}
-use Rattle.receiver.proofs.Calls.{listed, boardAfter, handedBy}
+use Rattle.rows.specs.Messages.{listed, boardAfter, handedBy}
 use Rattle.claims.specs.Record.{Transfers, numberAt, isLast, pieceAt, Honest, padding, whole, piece, cancelled}
 use Rattle.claims.specs.Calls.{Fresh, Delivery}
 use Rattle.claims.specs.Demand3.{delivery}

@@ -17,7 +17,8 @@ use Rattle.window.proofs.Entering.{row-below, all-enter, own-enters, next-enter
 use Rattle.row.specs.declared.Row.{Row}
 use Rattle.row.specs.declared.Phase.the-variants.{Free}
 use Rattle.reassembly.specs.Rules as Rules
-use Rattle.pieces.specs.Pieces.{bundleMax, sumOf}
+use Rattle.octets.specs.Octets.{sumOf}
+use Rattle.pieces.specs.Pieces.{bundleMax}
 use Rattle.row.specs.Row.{emptyRow}
 use Rattle.reassembly.specs.Rules.{pieceStep, cancelStep}
 use Rattle.rows.specs.declared.Origin.the-variants.{Transfer}
@@ -26,7 +27,7 @@ use Rattle.rows.specs.Message.{Board, Handed, Outcome, cellAt, handedOf, moved,
 use Rattle.rows.proofs.Rows.{length-freed, getD-freed}
 use Rattle.messages.proofs.Cells.{length-cell, length-put-cell}
 use Rattle.receiver.proofs.Pool.{cell-put, cell-other}
-use Rattle.receiver.proofs.Calls.{listed, boardAfter, handedBy}
+use Rattle.rows.specs.Messages.{listed, boardAfter, handedBy}
 use Rattle.claims.specs.Calls.{Fresh}
 use Rattle.claims.specs.Demand3.{join}
 use Rattle.claims.proofs.Window.{window-size}

@@ -17,7 +17,7 @@ use Rattle.sender.specs.Answers.{isRefusal}
 use Rattle.sender.specs.Calls.{flushCases, flush}
 use Rattle.sender.proofs.Ways.{unless-ways}
 use Rattle.rows.specs.Message.{draft02, Board, Handed}
-use Rattle.receiver.proofs.Calls.{boardAfter, handedBy}
+use Rattle.rows.specs.Messages.{boardAfter, handedBy}
 use Rattle.claims.specs.Calls.{Fresh, Entry, handedOf, Calls}
 use Rattle.claims.specs.Use.{taken, Used, flushing}
 use Rattle.claims.specs.Demand2.{Flushed, Demand2}

@@ -20,13 +20,14 @@ use Rattle.window.specs.Window.{sixteen}
 use Rattle.pieces.specs.Pieces as Pieces
 use Rattle.row.specs.Row as Row
 use Rattle.reassembly.specs.Rules as Rules
-use Rattle.pieces.specs.Pieces.{bundleMax, sumOf}
+use Rattle.octets.specs.Octets.{sumOf}
+use Rattle.pieces.specs.Pieces.{bundleMax}
 use Rattle.rows.specs.declared.Origin.the-variants.{Transfer}
 use Rattle.rows.specs.State as State
 use Rattle.rows.specs.State.{fresh}
 use Rattle.rows.specs.Message as Step
 use Rattle.rows.specs.Message.{draft02, Board}
-use Rattle.receiver.proofs.Calls as Run
+use Rattle.rows.specs.Messages as Run
 use Rattle.claims.specs.Record.{WellFormed, Transfers, numberAt, pieceAt, Honest, piece, cancelled, Record}
 use Rattle.claims.specs.Calls.{Delivery, Entry, handedOf, Calls}
 use Rattle.claims.proofs.Taking.{entriesOf, receives, reception}
@@ -131,7 +132,7 @@ late = took other (delivery (Transfer 11) (67 ∷ []) ∷ []) ∷ took front [] 
 
 computed : (entriesOf draft02 16 board (front ∷ []) ≡ short) × (entriesOf draft02 16 board (front ∷ back ∷ []) ≡ long)
     × (entriesOf draft02 16 board (stop ∷ front ∷ back ∷ []) ≡ stopped) × (entriesOf draft02 16 board (other ∷ front ∷ back ∷ []) ≡ late)
-unfolding front back other stop board bundle delivery entriesOf Octets.number Octets.put Layout.kindOf Layout.lengthField Layout.hints Layout.fitting Layout.message Layout.content Layout.body Layout.bodied Layout.headed Layout.read Frame.prepend Frame.items Frame.follow Frame.scan Frame.scanned Frame.messages Window.standing Window.standingOf Window.enters Pieces.has Pieces.hasAbove Pieces.hasAll Pieces.sumOf Row.indexesOf Row.lengthsOf Pieces.startOf Pieces.sizeOf Pieces.piece Pieces.joined Rules.cancelled Row.contradicts Row.judgeLive Row.judge Rules.withPiece Rules.complete Rules.bundleOf Rules.settle Rules.carryOut Rules.pieceStep Rules.cancelStep State.fresh Step.cellAt Step.putCell Step.handedOf Step.freedFrom Step.moved Step.inRow Step.treatTransfer Step.step Run.listed Run.boardAfter Run.handedBy
+unfolding front back other stop board bundle delivery entriesOf Octets.number Octets.put Layout.kindOf Layout.lengthField Layout.hints Layout.fitting Layout.message Layout.content Layout.body Layout.bodied Layout.headed Layout.read Frame.prepend Frame.items Frame.follow Frame.scan Frame.scanned Frame.messages Window.standing Window.standingOf Window.enters Pieces.has Pieces.hasAbove Pieces.hasAll Octets.sumOf Row.indexesOf Row.lengthsOf Pieces.startOf Pieces.sizeOf Pieces.piece Pieces.joined Rules.cancelled Row.contradicts Row.judgeLive Row.judge Rules.withPiece Rules.complete Rules.bundleOf Rules.settle Rules.carryOut Rules.pieceStep Rules.cancelStep State.fresh Step.cellAt Step.putCell Step.handedOf Step.freedFrom Step.moved Step.inRow Step.treatTransfer Step.step Run.listed Run.boardAfter Run.handedBy
 computed = (refl, refl, refl, refl)
 
 unfoldable Among : List (List ℕ) → Type 0
@@ -211,7 +212,7 @@ abbrev twice : List Entry
 twice = took near (number 5 ∷ []) ∷ took far (number 2147483653 ∷ []) ∷ took near (number 5 ∷ []) ∷ []
 
 computed-twice : (entriesOf draft02 16 board (near ∷ far ∷ near ∷ []) ≡ twice) × One near (last 5 0 (65 ∷ [])) × One far (last 2147483653 0 (65 ∷ []))
-unfolding near far board delivery entriesOf Octets.number Octets.put Layout.kindOf Layout.lengthField Layout.hints Layout.fitting Layout.message Layout.content Layout.body Layout.bodied Layout.headed Layout.read Frame.prepend Frame.items Frame.follow Frame.scan Frame.scanned Frame.messages Window.standing Window.standingOf Window.enters Pieces.has Pieces.hasAbove Pieces.hasAll Pieces.sumOf Row.indexesOf Row.lengthsOf Pieces.startOf Pieces.sizeOf Pieces.piece Pieces.joined Rules.cancelled Row.contradicts Row.judgeLive Row.judge Rules.withPiece Rules.complete Rules.bundleOf Rules.settle Rules.carryOut Rules.pieceStep Rules.cancelStep State.fresh Step.cellAt Step.putCell Step.handedOf Step.freedFrom Step.moved Step.inRow Step.treatTransfer Step.step Run.listed Run.boardAfter Run.handedBy
+unfolding near far board delivery entriesOf Octets.number Octets.put Layout.kindOf Layout.lengthField Layout.hints Layout.fitting Layout.message Layout.content Layout.body Layout.bodied Layout.headed Layout.read Frame.prepend Frame.items Frame.follow Frame.scan Frame.scanned Frame.messages Window.standing Window.standingOf Window.enters Pieces.has Pieces.hasAbove Pieces.hasAll Octets.sumOf Row.indexesOf Row.lengthsOf Pieces.startOf Pieces.sizeOf Pieces.piece Pieces.joined Rules.cancelled Row.contradicts Row.judgeLive Row.judge Rules.withPiece Rules.complete Rules.bundleOf Rules.settle Rules.carryOut Rules.pieceStep Rules.cancelStep State.fresh Step.cellAt Step.putCell Step.handedOf Step.freedFrom Step.moved Step.inRow Step.treatTransfer Step.step Run.listed Run.boardAfter Run.handedBy
 computed-twice = (refl, record { scan = refl }, record { scan = refl })
 
 both-well-formed : (f : List ℕ) → List·Memᴰ f (near ∷ far ∷ near ∷ []) → WellFormed draft02 f

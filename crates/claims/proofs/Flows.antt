@@ -8,10 +8,10 @@ use native.Mathlib.Omega.{arith}
 use native.Mathlib.Nat.{zero-add}
 use lib.ListN.{length, take, drop, length-append, length-drop, take-append-drop}
 use lib.Seq.{take-add}
-use Rattle.octets.specs.Octets.{put}
+use Rattle.octets.specs.Octets.{put, sumOf}
 use Rattle.wire.specs.Message.{Message, skipped, bundle, segment, last, cancel as cancelled}
 use Rattle.wire.specs.Frame.{messages}
-use Rattle.pieces.specs.Pieces.{bundleMax, sumOf}
+use Rattle.pieces.specs.Pieces.{bundleMax}
 use Rattle.framing.specs.Answers.{placed}
 use Rattle.rows.specs.declared.Origin.the-variants.{Whole, Transfer}
 use Rattle.rows.specs.Message.{Handed}

@@ -7,13 +7,13 @@ use lib.ListN.{length, length-append}
 use lib.Seq.{drop-append-seam}
 use Rattle.wire.specs.Message.{Message, skipped, good}
 use Rattle.wire.specs.Layout.{read}
-use Rattle.wire.specs.Frame.{Item, row, prepend, items, follow, scan, scanned, messages}
+use Rattle.wire.specs.Frame.{Item, row, prepend, items, follow, scan, scanned, messages, frameMax}
 use Rattle.writing.specs.Written.{written, padding}
 use Rattle.wire.proofs.Frames.{scan-step}
 use Rattle.wire.proofs.Spans.{sized}
 use Rattle.writing.proofs.Written.{Writable, read-written, read-padding, length-written, length-padding}
-use Rattle.rows.specs.Message.{draft02, frameMax}
-use Rattle.receiver.proofs.Calls.{messagesIn}
+use Rattle.rows.specs.Message.{draft02}
+use Rattle.rows.specs.Messages.{messagesIn}
 use Rattle.claims.specs.Record.{WellFormed}
 
 -- the octets at position p are a row of the messages ms

@@ -13,7 +13,8 @@ use borrow.Author.Tests.{eqb-false, eq-eqb, ne-eqb}
 use Rattle.octets.proofs.Flags.{bool}
 use Rattle.row.specs.declared.Row.{Row}
 use Rattle.row.specs.declared.Phase.the-variants.{Free}
-use Rattle.pieces.specs.Pieces.{bundleMax, has, hasAll, sumOf}
+use Rattle.octets.specs.Octets.{sumOf}
+use Rattle.pieces.specs.Pieces.{bundleMax, has, hasAll}
 use Rattle.row.specs.Row.{emptyRow}
 use Rattle.reassembly.specs.Rules.{Outcome, pieceStep}
 use Rattle.pieces.proofs.Lists.{all-lacks}

@@ -11,12 +11,12 @@ use lib.ListN.{length, getD, take, drop, length-append, length-set}
 use lib.Seq.{take-append-seam, drop-append-seam, take-suc-set, drop-append-add, take-suc, take-length}
 use lib.Dec.{ltb, eqb}
 use borrow.Author.Tests.{eqb-true, eqb-false, eq-eqb, ne-eqb, le-ltb}
-use Rattle.octets.specs.Octets.{put}
+use Rattle.octets.specs.Octets.{put, sumOf}
 use Rattle.octets.proofs.Flags.{bool, both, or-right}
 use Rattle.octets.proofs.Put.{length-put}
 use Rattle.row.specs.declared.Row.{Row}
 use Rattle.row.specs.declared.Phase.the-variants.{Free, Done, Cancelled}
-use Rattle.pieces.specs.Pieces.{bundleMax, has, hasAbove, hasAll, sumOf, piece, joined}
+use Rattle.pieces.specs.Pieces.{bundleMax, has, hasAbove, hasAll, piece, joined}
 use Rattle.row.specs.Row.{indexesOf, lengthsOf, emptyRow, isLive, contradiction, contradicts, judgeLive, judge}
 use Rattle.reassembly.specs.Rules.{cancelled, lastAfter, withPiece, complete, bundleOf, Outcome, settle, carryOut, pieceStep, cancelStep}
 use Rattle.pieces.proofs.Joining.{piece-cons}

@@ -16,7 +16,8 @@ use Rattle.receiver.specs.declared.Answer.the-variants.{Delivered, Finished, Re
 use Rattle.rows.specs.Message.{Draft, Board, messagesFrom}
 use Rattle.receiver.specs.Receive.{Reply, treat, receive}
 use Rattle.receiver.proofs.Ready.{Ready, treat-ready, fresh-ready}
-use Rattle.receiver.proofs.Calls.{boardAfter, handedBy, messagesIn, Treated, through, stops, treating, refused-keeps, not-refused, admitted}
+use Rattle.rows.specs.Messages.{boardAfter, handedBy, messagesIn}
+use Rattle.receiver.proofs.Calls.{Treated, through, stops, treating, refused-keeps, not-refused, admitted}
 use Rattle.claims.specs.Record.{WellFormed, Record}
 use Rattle.claims.specs.Calls.{Fresh, Delivery, Entry, Takes, delivered, finished, refused, Calls, over, taken, between}
 use Rattle.claims.specs.Demand3.{delivery, Measured, Reception}

@@ -6,9 +6,10 @@ use Prim.Native.Nat.{ℕ, _+_, _%_, _^_, _≤_, _<_}
 use lib.ListN.{length, getD}
 use lib.Dec.{eqb}
 use Rattle.wire.specs.Message.{Message, skipped, bundle, segment, last, cancel}
-use Rattle.wire.specs.Frame.{Item, row, scanned, messages}
-use Rattle.pieces.specs.Pieces.{bundleMax, sumOf}
-use Rattle.rows.specs.Message.{Draft, frameMax}
+use Rattle.wire.specs.Frame.{Item, row, scanned, messages, frameMax}
+use Rattle.octets.specs.Octets.{sumOf}
+use Rattle.pieces.specs.Pieces.{bundleMax}
+use Rattle.rows.specs.Message.{Draft}
 
 -- "A frame is one link-layer PDU, 1 to 2,048 octets. It is a row of messages that ends exactly at its end."
 pub record WellFormed (D : Draft) (frame : List ℕ) : Type 0 where

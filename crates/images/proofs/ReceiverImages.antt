@@ -9,23 +9,24 @@ use lib.Dec.{eqb, leb, ltb}
 use lib.ListN.{length, getD, take, drop}
 use lib.Seq.{take-at, drop-at, getD-take, getD-drop}
 use borrow.Author.Tests.{eq-eqb, eqb-true, ltb-true, ltb-false}
-use Rattle.octets.specs.Octets.{be16, be32}
+use Rattle.octets.specs.Octets.{be32, spread, sumOf}
 use Rattle.octets.proofs.Flags.{bool, and, both}
-use Rattle.octets.proofs.Numbers.{number-be32, number16-be16}
+use Rattle.octets.proofs.Numbers.{number-be32}
+use Rattle.octets.proofs.Series.{length-items}
+use Rattle.octets.proofs.Pairs.{pairs-back}
 use Rattle.window.specs.Window.{windowSize}
 use Rattle.row.specs.declared.Phase.{Phase}
 use Rattle.row.specs.declared.Phase.the-variants.{Free, Open, Done, Cancelled, Abandoned}
 use Rattle.row.specs.declared.Row.{Row}
-use Rattle.pieces.specs.Pieces.{bundleMax, sumOf, isZeros}
+use Rattle.pieces.specs.Pieces.{bundleMax, isZeros}
 use Rattle.row.specs.Row.{lengthsOf, soundRow}
 use Rattle.row.proofs.Shaped.{Shaped}
 use Rattle.row.proofs.Sound.{sound-facts}
 use Rattle.rows.specs.declared.State.{State}
 use Rattle.rows.specs.State.{soundRows, sound}
 use Rattle.rows.proofs.Rows.{sound-get}
-use Rattle.images.specs.Receiver.{imageSize, rowSize, phaseOf, isRow, pairs, rowOf, areRows, rowsOf, isImage, stateOf, phaseCode, flag, spread, rowImage, rowsImage, imageOf}
+use Rattle.images.specs.Receiver.{imageSize, rowSize, phaseOf, isRow, rowOf, areRows, rowsOf, isImage, stateOf, phaseCode, flag, rowImage, rowsImage, imageOf}
 use Rattle.images.proofs.Rows.{length-row}
-use Rattle.images.proofs.Series.{length-items}
 
 -- a row whose numbers fit their octets
 pub record RowFits (r : Row) : Type 0 where
@@ -61,14 +62,6 @@ flag-back false = refl
 pub flag-low : (b : Bool) → leb (flag b) 1 ≡ true
 flag-low true = refl
 flag-low false = refl
-
-pairs-back : (ns xs : List ℕ) (n : ℕ) → length ns ≡ n → ((k : ℕ) → k < length ns → getD ns k 0 < 2 ^ 16) → pairs n (spread ns ++ xs) ≡ ns
-unfolding pairs spread be16
-pairs-back [] xs zero e low = refl
-pairs-back [] xs (suc n) e low = absurd (omega arith)
-pairs-back (x ∷ ns) xs zero e low = absurd (omega arith)
-pairs-back (x ∷ ns) xs (suc n) e low =
-    rw (number16-be16 x (spread ns ++ xs) (low 0 (omega arith)), pairs-back ns xs n (omega arith) (λ k h. low (suc k) (omega arith)))
 
 -- ---- rows, with octets behind them
 

@@ -10,17 +10,17 @@ use lib.Dec.{leb, eqb}
 use lib.ListN.{length, getD, take, drop, set, length-append, length-take, length-drop}
 use lib.Seq.{take-all, drop-drop, getD-drop}
 use borrow.Author.Tests.{eqb-true}
-use Rattle.octets.specs.Octets.{number16, be16, be32, put}
+use Rattle.octets.specs.Octets.{be32, pairs, spread, put}
 use Rattle.octets.proofs.Flags.{both}
 use Rattle.octets.proofs.Put.{put-whole, put-put}
-use Rattle.octets.proofs.Numbers.{length-be16}
+use Rattle.octets.proofs.Series.{read-turn, read-end, write-turn, write-end}
+use Rattle.octets.proofs.Pairs.{length-spread}
 use Rattle.row.specs.declared.Phase.{Phase}
 use Rattle.row.specs.declared.Row.{Row}
 use Rattle.row.proofs.Shaped.{Shaped}
 use Rattle.rows.specs.declared.State.{State}
 use Rattle.window.specs.Window.{windowSize}
-use Rattle.images.specs.Receiver.{imageSize, rowSize, phaseOf, isRow, pairs, rowOf, areRows, rowsOf, isImage, phaseCode, flag, spread, rowImage, rowsImage, imageOf}
-use Rattle.images.proofs.Series.{read-turn, read-end, write-turn, write-end, length-items}
+use Rattle.images.specs.Receiver.{imageSize, rowSize, phaseOf, isRow, rowOf, areRows, rowsOf, isImage, phaseCode, flag, rowImage, rowsImage, imageOf}
 
 -- ---- the tests
 
@@ -49,15 +49,6 @@ image-full xs e =
 pub part-copied : (d xs : List ℕ) (at n : ℕ) → length d ≡ n → at + n ≤ length xs → put d 0 (take (at + n - at) (drop at xs)) ≡ take n (drop at xs)
 part-copied d xs at n l h = rw (add-sub-cancel-left at n) (put-whole d (take n (drop at xs)) (rw (length-take, length-drop) (omega arith)))
 
-pub pairs-turn : (items : List ℕ) (xs : List ℕ) (at k : ℕ) (v : ℕ) → take k items ≡ pairs k (drop at xs) → k < length items → v ≡ number16 (drop (at + k * 2) xs)
-    → take (k + 1) (set items k v) ≡ pairs (k + 1) (drop at xs)
-unfolding pairs
-pairs-turn = read-turn 2 number16 pairs (λ xs. refl) (λ n xs. refl)
-
-pub pairs-end : (items : List ℕ) (xs : List ℕ) (k n : ℕ) → take k items ≡ pairs k xs → length items ≡ n → n ≡ k → items ≡ pairs n xs
-unfolding pairs
-pairs-end = read-end 2 number16 pairs (λ xs. refl) (λ n xs. refl)
-
 -- a row from its parts
 pub row-read : (xs : List ℕ) (at : ℕ) (p : Phase) (h : ℕ) (is ls : List ℕ) → p ≡ phaseOf (getD xs at 0) → h ≡ getD xs (at + 3) 0
     → is ≡ take 64 (drop (at + 4) xs) → ls ≡ pairs 64 (drop (at + 68) xs)
@@ -75,20 +66,6 @@ unfolding rowsOf
 rows-end = read-end rowSize rowOf rowsOf (λ xs. refl) (λ n xs. refl)
 
 -- ---- to octets
-
-pub spread-turn : (d d′ d″ items : List ℕ) (at k : ℕ) → d′ ≡ put d at (spread (take k items)) → length (spread (take k items)) ≡ k * 2
-    → k < length items → at + k * 2 + 2 ≤ length d → d″ ≡ put d′ (at + k * 2) (be16 (getD items k 0))
-    → (d″ ≡ put d at (spread (take (k + 1) items))) × (length (spread (take (k + 1) items)) ≡ (k + 1) * 2)
-unfolding spread
-spread-turn d d′ d″ items at k e l = write-turn be16 spread refl (λ x xs. refl) 2 d d′ d″ items at k 0 e l (length-be16 (getD items k 0))
-
-pub spread-end : (d d′ items : List ℕ) (at k : ℕ) → d′ ≡ put d at (spread (take k items)) → length items ≤ k → d′ ≡ put d at (spread items)
-unfolding spread
-spread-end = write-end be16 spread refl (λ x xs. refl)
-
-length-spread : (ns : List ℕ) → length (spread ns) ≡ length ns * 2
-unfolding spread
-length-spread ns = length-items be16 spread refl (λ x xs. refl) 2 ns (λ k z h. length-be16 (getD ns k z))
 
 pub length-row : (r : Row) → Shaped r → length (rowImage r) ≡ rowSize
 unfolding rowImage

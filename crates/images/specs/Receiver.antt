@@ -6,7 +6,7 @@ use mathlib.Core.List.{List, [], _∷_, _++_}
 use Prim.Native.Nat.{ℕ, zero, suc, _+_, _*_, _/_, _%_}
 use lib.ListN.{length, getD, take, drop}
 use lib.Dec.{eqb, leb}
-use Rattle.octets.specs.Octets.{number, number16, be32, be16}
+use Rattle.octets.specs.Octets.{number, be32, pairs, spread}
 use Rattle.window.specs.Window.{windowSize}
 use Rattle.row.specs.declared.Row.{Row}
 use Rattle.row.specs.declared.Phase.{Phase}
@@ -27,11 +27,6 @@ phaseOf n = cond (eqb n 1) Open (cond (eqb n 2) Done (cond (eqb n 3) Cancelled (
 
 unfoldable pub isRow : List ℕ → Bool
 isRow xs = leb (getD xs 0 0) 4 && leb (getD xs 1 0) 1
-
--- the first n numbers of two octets
-unfoldable pub pairs : ℕ → List ℕ → List ℕ
-pairs zero xs = []
-pairs (suc n) xs = number16 xs ∷ pairs n (drop 2 xs)
 
 -- the two octets of a number exchanged
 abbrev pub exchange : ℕ → ℕ
@@ -77,10 +72,6 @@ phaseCode Abandoned = 4
 
 abbrev pub flag : Bool → ℕ
 flag b = cond b 1 0
-
-unfoldable pub spread : List ℕ → List ℕ
-spread [] = []
-spread (n ∷ ns) = be16 n ++ spread ns
 
 -- a sound row holds at most 64 pieces
 unfoldable pub rowImage : Row → List ℕ

@@ -6,7 +6,7 @@ ghost use mathlib.Core.Path.{_≡_};
 ghost use mathlib.Core.List.{map};
 ghost use Prim.Native.Nat.{_+_, _*_, _≤_};
 ghost use lib.ListN.{length, take, drop};
-ghost use Rattle.octets.specs.Octets.{put};
+ghost use Rattle.octets.specs.Octets.{pairs, put};
 ghost use Rattle.window.specs.Window.{windowSize};
 ghost use Rattle.images.specs.Receiver as Spec;
 ghost use Rattle.images.specs.Receiver.{imageSize, rowSize};
@@ -70,7 +70,7 @@ fn indexes_of(image: &[u8], at: usize) -> [u8; 64]
 // Numbers of two octets, low octet first: the order in which this machine reads two octets at once.
 fn pairs_of(image: &[u8], at: usize) -> [u16; 64]
     requires { ⌜ at + 128 ≤ length (now image) ⌝ }
-    ensures { λ r. ⌜ map Spec.exchange r ≡ Spec.pairs 64 (drop at (now (image .entry))) ⌝ }
+    ensures { λ r. ⌜ map Spec.exchange r ≡ pairs 64 (drop at (now (image .entry))) ⌝ }
 {
     let mut pairs = [0u16; 64];
     let mut j = 0;
@@ -104,7 +104,7 @@ fn exchanged(pairs: [u16; 64]) -> [u16; 64]
 // The compiler makes a copy and a vector loop of this; a single loop it reads octet by octet.
 fn lengths_of(image: &[u8], at: usize) -> [u16; 64]
     requires { ⌜ at + 128 ≤ length (now image) ⌝ }
-    ensures { λ r. ⌜ r ≡ Spec.pairs 64 (drop at (now (image .entry))) ⌝ }
+    ensures { λ r. ⌜ r ≡ pairs 64 (drop at (now (image .entry))) ⌝ }
 {
     exchanged(pairs_of(image, at))
 }
@@ -173,17 +173,6 @@ pub fn state_of(image: &[u8]) -> State
     }
 }
 
-fn put_lengths(image: &mut [u8], at: usize, lengths: &[u16])
-    requires { ⌜ at + 2 * length (now lengths) ≤ length (now image) ⌝ }
-    ensures { λ _. ⌜ now (image .exit) ≡ put (now (image .entry)) at (Spec.spread (now (lengths .entry))) ⌝ }
-{
-    let mut j = 0;
-    while j < lengths.len() {
-        octets::put_number16(image, at + j * 2, lengths[j]);
-        j += 1;
-    }
-}
-
 fn put_row(image: &mut [u8], at: usize, row: Row)
     requires { ⌜ at + rowSize ≤ length (now image) ⌝ }
     ensures { λ _. ⌜ (now (image .exit) ≡ put (now (image .entry)) at (Spec.rowImage row)) × (length (Spec.rowImage row) ≡ rowSize) ⌝ }
@@ -194,7 +183,7 @@ fn put_row(image: &mut [u8], at: usize, row: Row)
     let held = (row.held % 256) as u8;
     octets::put_four(image, at, [code, known, row.last, held]);
     octets::copy_into(image, at + 4, &row.indexes[..]);
-    put_lengths(image, at + 68, &row.lengths[..]);
+    octets::put_pairs(image, at + 68, &row.lengths[..]);
 }
 
 fn put_rows(image: &mut [u8], rows: [Row; 16])

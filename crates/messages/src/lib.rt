@@ -16,14 +16,14 @@ ghost use Prim.Native.Nat.{_+_, _*_, _≤_, _<_, _^_};
 ghost use lib.ListN.{length};
 ghost use lib.Dec.{ltb};
 ghost use Rattle.wire.specs.Layout.{read};
-ghost use Rattle.wire.specs.Frame.{checked};
+ghost use Rattle.wire.specs.Frame.{checked, frameMax};
 ghost use Rattle.wire.specs.declared.Checked.the-variants as Frame;
 ghost use Rattle.window.specs.Window.{windowSize};
 ghost use Rattle.pieces.specs.Pieces.{bundleMax};
 ghost use Rattle.row.specs.Row.{soundRow};
 ghost use Rattle.reassembly.specs.Rules.{Answers};
 ghost use Rattle.rows.specs.State as Spec;
-ghost use Rattle.rows.specs.Message.{draft02, frameMax, messagesFrom, cellAt};
+ghost use Rattle.rows.specs.Message.{draft02, messagesFrom, cellAt};
 ghost use Rattle.messages.specs.Run as Loop;
 
 // Bundles handed out, their octets, the next message's start, and the last bundle's origin.

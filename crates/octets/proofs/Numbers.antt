@@ -1,9 +1,9 @@
 -- A number that was written reads back: `number` and `be32`, `number16` and `be16` of specs/Octets.antt.
 use mathlib.Core.Path.{_≡_, refl}
-use mathlib.Core.List.{List, _++_}
-use Prim.Native.Nat.{ℕ, _/_, _%_, _<_, _^_}
+use mathlib.Core.List.{List, [], _∷_, _++_}
+use Prim.Native.Nat.{ℕ, _+_, _*_, _/_, _%_, _≤_, _<_, _^_}
 use native.Mathlib.Omega.{arith}
-use lib.ListN.{length}
+use lib.ListN.{length, getD, take}
 use Rattle.octets.specs.Octets.{number, number16, be32, be16}
 
 pub number-be32 : (n : ℕ) (l : List ℕ) → n < 2 ^ 32 → number (be32 n ++ l) ≡ n
@@ -29,3 +29,26 @@ be16-low n =
     let a : n % 65536 / 256 % 256 ≡ n / 256 % 256 = omega arith in
     let b : n % 65536 % 256 ≡ n % 256 = omega arith in
     rw (a, b)
+
+-- octets that were read are written again
+
+pub be32-back : (xs : List ℕ) → ((k : ℕ) → getD xs k 0 < 256) → 4 ≤ length xs → be32 (number xs) ≡ take 4 xs
+unfolding number be32
+be32-back [] low h = absurd (omega arith)
+be32-back (a ∷ []) low h = absurd (omega arith)
+be32-back (a ∷ b ∷ []) low h = absurd (omega arith)
+be32-back (a ∷ b ∷ c ∷ []) low h = absurd (omega arith)
+be32-back (a ∷ b ∷ c ∷ d ∷ xs) low h =
+    let n : ℕ = a * 16777216 + b * 65536 + c * 256 + d in
+    let e₀ : n / 16777216 ≡ a = omega (arith, low 1, low 2, low 3) in
+    let e₁ : n / 65536 % 256 ≡ b = omega (arith, low 1, low 2, low 3) in
+    let e₂ : n / 256 % 256 ≡ c = omega (arith, low 2, low 3) in
+    let e₃ : n % 256 ≡ d = omega (arith, low 3) in
+    rw (e₀, e₁, e₂, e₃)
+
+pub be16-back : (a b : ℕ) (xs : List ℕ) → a < 256 → b < 256 → be16 (number16 (a ∷ b ∷ xs)) ≡ a ∷ b ∷ []
+unfolding number16 be16
+be16-back a b xs ha hb =
+    let e₀ : (a * 256 + b) / 256 % 256 ≡ a = omega arith in
+    let e₁ : (a * 256 + b) % 256 ≡ b = omega arith in
+    rw (e₀, e₁)

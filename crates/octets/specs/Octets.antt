@@ -1,6 +1,6 @@
 -- Runs of octets: a number read and written, and a run written at an offset (document 01: "Numbers are big-endian").
 use mathlib.Core.List.{List, [], _∷_, _++_}
-use Prim.Native.Nat.{ℕ, _+_, _*_, _/_, _%_}
+use Prim.Native.Nat.{ℕ, zero, suc, _+_, _*_, _/_, _%_}
 use lib.ListN.{length, getD, take, drop}
 
 -- the number of 32 bits at the head
@@ -18,6 +18,20 @@ number16 xs = getD xs 0 0 * 256 + getD xs 1 0
 -- the two octets of a number below 2 ^ 16
 unfoldable pub be16 : ℕ → List ℕ
 be16 n = n / 256 % 256 ∷ n % 256 ∷ []
+
+-- the first n numbers of 16 bits
+unfoldable pub pairs : ℕ → List ℕ → List ℕ
+pairs zero xs = []
+pairs (suc n) xs = number16 xs ∷ pairs n (drop 2 xs)
+
+-- numbers of 16 bits, one behind another
+unfoldable pub spread : List ℕ → List ℕ
+spread [] = []
+spread (n ∷ ns) = be16 n ++ spread ns
+
+unfoldable pub sumOf : List ℕ → ℕ
+sumOf [] = 0
+sumOf (x ∷ xs) = x + sumOf xs
 
 -- the octets vs from `at` on; all other octets of d stay
 unfoldable pub put : List ℕ → ℕ → List ℕ → List ℕ

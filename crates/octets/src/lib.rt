@@ -1,8 +1,8 @@
 // Runs of octets: reading and writing a number, copying a run to an offset, and zeros up to the end.
 ghost use mathlib.Core.Path.{_≡_};
-ghost use Prim.Native.Nat.{_+_, _-_, _≤_, _<_};
-ghost use lib.ListN.{length, drop, replicate};
-ghost use Rattle.octets.specs.Octets.{number, number16, be32, be16, put, copyMax};
+ghost use Prim.Native.Nat.{_+_, _-_, _*_, _≤_, _<_};
+ghost use lib.ListN.{length, take, drop, replicate};
+ghost use Rattle.octets.specs.Octets.{number, number16, be32, be16, spread, sumOf, put, copyMax};
 
 // The greatest length of a copy.
 const COPY_MAX: usize = 4096;
@@ -64,6 +64,31 @@ pub fn copy_into(to: &mut [u8], at: usize, src: &[u8])
     copy_each(to, at, &buffer[..n]);
 }
 
+// Where the part that starts at `from` ends, of octets up to `size`.
+fn part_end(from: usize, size: usize) -> usize
+    requires { ⌜ from < size ⌝ }
+    ensures { λ r. ⌜ (from < r) × (r ≤ size) × (r ≤ from + copyMax) ⌝ }
+{
+    if size - from <= COPY_MAX {
+        return size;
+    }
+    from + COPY_MAX
+}
+
+// All of src, from `at` on, in parts.
+pub fn copy_long(to: &mut [u8], at: usize, src: &[u8])
+    requires { ⌜ at + length (now src) ≤ length (now to) ⌝ }
+    ensures { λ _. ⌜ now (to .exit) ≡ put (now (to .entry)) at (now (src .entry)) ⌝ }
+{
+    let size = src.len();
+    let mut j = 0;
+    while j < size {
+        let end = part_end(j, size);
+        copy_into(to, at + j, &src[j..end]);
+        j = end;
+    }
+}
+
 // Four octets, from `at` on. An array goes by value, and the compiler makes one store of it.
 pub fn put_four(to: &mut [u8], at: usize, four: [u8; 4])
     requires { ⌜ at + 4 ≤ length (now to) ⌝ }
@@ -99,6 +124,32 @@ pub fn put_number16(to: &mut [u8], at: usize, n: u16)
     let a = (n / 256 % 256) as u8;
     let b = (n % 256) as u8;
     put_two(to, at, [a, b]);
+}
+
+// Numbers of 16 bits one behind another, from `at` on.
+pub fn put_pairs(to: &mut [u8], at: usize, numbers: &[u16])
+    requires { ⌜ at + 2 * length (now numbers) ≤ length (now to) ⌝ }
+    ensures { λ _. ⌜ now (to .exit) ≡ put (now (to .entry)) at (spread (now (numbers .entry))) ⌝ }
+{
+    let mut j = 0;
+    while j < numbers.len() {
+        put_number16(to, at + j * 2, numbers[j]);
+        j += 1;
+    }
+}
+
+// The sum of the first `count` numbers.
+pub fn sum_of(numbers: &[u16], count: usize) -> usize
+    requires { ⌜ (count ≤ length (now numbers)) × (count ≤ 65536) ⌝ }
+    ensures { λ r. ⌜ r ≡ sumOf (take count (now (numbers .entry))) ⌝ }
+{
+    let mut sum = 0u32;
+    let mut k = 0;
+    while k < count {
+        sum += numbers[k] as u32;
+        k += 1;
+    }
+    sum as usize
 }
 
 // Zeros from `at` to the end.

@@ -11,7 +11,7 @@ use lib.Dec.{ltb, eqb}
 use borrow.Author.Tests.{eqb-true, eqb-false, lt-ltb, le-ltb, ltb-false}
 use Rattle.octets.proofs.Flags.{bool}
 use Rattle.pieces.specs.Pieces.{has, hasAbove, distinct, lowAndDistinct}
-use Rattle.pieces.proofs.Lists.{rest, rest-next, rest-end}
+use Rattle.octets.proofs.Rest.{rest, rest-next, rest-end}
 
 unfoldable pub apart : List Bool → List ℕ → Bool
 apart seen [] = true

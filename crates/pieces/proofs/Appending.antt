@@ -10,7 +10,8 @@ use lib.Seq.{take-suc, drop-set-lt}
 use lib.Dec.{eqb, ltb}
 use borrow.Author.Tests.{eqb-false, eq-eqb, ne-eqb, le-ltb, not-true}
 use Rattle.octets.proofs.Flags.{both, or-right, neither}
-use Rattle.pieces.specs.Pieces.{has, hasAbove, distinct, sumOf, isZeros}
+use Rattle.octets.specs.Octets.{sumOf}
+use Rattle.pieces.specs.Pieces.{has, hasAbove, distinct, isZeros}
 
 pub sum-snoc : (n : ℕ) (ls : List ℕ) → sumOf (ls ++ n ∷ []) ≡ sumOf ls + n
 unfolding sumOf

@@ -11,8 +11,8 @@ use lib.ListN.{length, take, drop, length-append, length-drop}
 use lib.Seq.{length-take-le, drop-drop}
 use lib.Dec.{eqb, ltb}
 use borrow.Author.Tests.{eqb-true, eqb-false, lt-ltb, le-ltb, ltb-true, ltb-false}
-use Rattle.octets.specs.Octets.{put}
-use Rattle.pieces.specs.Pieces.{sumOf, startOf, sizeOf, piece, joined, Joined}
+use Rattle.octets.specs.Octets.{put, sumOf}
+use Rattle.pieces.specs.Pieces.{startOf, sizeOf, piece, joined, Joined}
 use Rattle.octets.proofs.Flags.{bool}
 use Rattle.octets.proofs.Put.{put-put}
 

@@ -1,29 +1,19 @@
--- The entries of an array that a loop has yet to look at: those of its first n from k on.
+-- Searches over the entries of an array that a loop has yet to look at.
 use mathlib.Core.Path.{_≡_, sym, _∙_}
 use mathlib.Core.Bool.{Bool, true, false, _&&_, _||_, and-true, and-false, or-assoc, or-false}
-use mathlib.Core.List.{List, [], _∷_}
+use mathlib.Core.List.{List}
 use mathlib.Core.Logic.{_⊎_, inl, inr}
 use Prim.Native.Nat.{ℕ, zero, suc, _+_, _≤_, _<_}
 use native.Mathlib.Numerals.{add-one}
 use native.Mathlib.Nat.{eq-or-lt-of-le}
 use native.Mathlib.Omega.{arith}
-use lib.ListN.{length, take, drop, getD, drop-of-length-le}
-use lib.Seq.{drop-cons, getD-take, length-take-le}
+use lib.ListN.{length, drop, getD, drop-of-length-le}
+use lib.Seq.{drop-cons}
 use lib.Dec.{ltb, eqb}
 use borrow.Author.Tests.{eqb-true, eqb-false, eq-eqb, ne-eqb}
 use Rattle.octets.proofs.Flags.{bool}
-use Rattle.pieces.specs.Pieces.{has, hasAbove, hasAll, sumOf, isZeros}
-
-abbrev pub rest : ℕ → ℕ → List ℕ → List ℕ
-rest k n xs = drop k (take n xs)
-
-pub rest-next : (k n : ℕ) (xs : List ℕ) → k < n → n ≤ length xs → rest k n xs ≡ getD xs k 0 ∷ rest (k + 1) n xs
-rest-next k n xs h l =
-    let e : length (take n xs) ≡ n = length-take-le n xs l in
-    drop-cons (take n xs) k 0 (omega arith) ∙ rw (add-one, getD-take n xs k 0 h)
-
-pub rest-end : (k n : ℕ) (xs : List ℕ) → n ≤ k → n ≤ length xs → rest k n xs ≡ []
-rest-end k n xs h l = let e : length (take n xs) ≡ n = length-take-le n xs l in drop-of-length-le (take n xs) {i = k} (omega arith)
+use Rattle.octets.proofs.Rest.{rest, rest-next, rest-end}
+use Rattle.pieces.specs.Pieces.{has, hasAbove, hasAll, isZeros}
 
 module _ (i k n : ℕ) (xs : List ℕ) (all : Bool) (seen : Bool) (h : k < n) (l : n ≤ length xs) where
   pub has-turn : all ≡ (seen || has i (rest k n xs)) → all ≡ ((seen || eqb (getD xs k 0) i) || has i (rest (k + 1) n xs))
@@ -42,14 +32,6 @@ module _ (i k n : ℕ) (xs : List ℕ) (all : Bool) (seen : Bool) (h : n ≤ k) 
   pub above-end : all ≡ (seen || hasAbove i (rest k n xs)) → seen ≡ all
   unfolding hasAbove
   above-end e = sym (e ∙ rw (rest-end k n xs h l) (or-false seen))
-
-pub sum-turn : (k n : ℕ) (xs : List ℕ) → k < n → n ≤ length xs → sumOf (rest k n xs) ≡ getD xs k 0 + sumOf (rest (k + 1) n xs)
-unfolding sumOf
-sum-turn k n xs h l = rw (rest-next k n xs h l)
-
-pub sum-end : (k n : ℕ) (xs : List ℕ) → n ≤ k → n ≤ length xs → sumOf (rest k n xs) ≡ 0
-unfolding sumOf
-sum-end k n xs h l = rw (rest-end k n xs h l)
 
 -- ---- one index
 

@@ -11,7 +11,8 @@ use lib.Seq.{getD-set-same, getD-set-other, length-take-le, take-suc}
 use lib.Dec.{eqb}
 use borrow.Author.Tests.{eqb-true, eqb-false, ne-eqb}
 use Rattle.octets.proofs.Flags.{bool, neither, cond-elim}
-use Rattle.pieces.specs.Pieces.{has, sumOf, startOf, sizeOf, piece}
+use Rattle.octets.specs.Octets.{sumOf}
+use Rattle.pieces.specs.Pieces.{has, startOf, sizeOf, piece}
 use Rattle.pieces.specs.Note.{absent, Right}
 use Rattle.pieces.specs.Search.{noted}
 use Rattle.pieces.proofs.Appending.{has-append}

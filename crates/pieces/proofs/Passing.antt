@@ -7,7 +7,8 @@ use lib.ListN.{length, take, getD}
 use lib.Dec.{ltb}
 use borrow.Author.Tests.{ltb-true}
 use Rattle.octets.proofs.Flags.{cond-elim}
-use Rattle.pieces.proofs.Lists.{rest, has-there}
+use Rattle.octets.proofs.Rest.{rest}
+use Rattle.pieces.proofs.Lists.{has-there}
 use Rattle.pieces.specs.Pieces.{has}
 use Rattle.pieces.specs.Search.{pastLower}
 

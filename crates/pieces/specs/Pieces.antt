@@ -32,10 +32,6 @@ unfoldable pub distinct : List ℕ → Bool
 distinct [] = true
 distinct (i ∷ is) = not (has i is) && distinct is
 
-unfoldable pub sumOf : List ℕ → ℕ
-sumOf [] = 0
-sumOf (x ∷ xs) = x + sumOf xs
-
 unfoldable pub isZeros : List ℕ → Bool
 isZeros [] = true
 isZeros (x ∷ xs) = eqb x 0 && isZeros xs

@@ -3,7 +3,7 @@ ghost use mathlib.Core.Path.{_≡_};
 ghost use mathlib.Core.Bool.{false, _&&_};
 ghost use Prim.Native.Nat.{_+_, _≤_, _<_};
 ghost use lib.ListN.{length, take, drop, replicate};
-ghost use Rattle.octets.specs.Octets.{put};
+ghost use Rattle.octets.specs.Octets.{put, sumOf};
 ghost use Rattle.pieces.specs.Pieces as Spec;
 ghost use Rattle.pieces.specs.Pieces.{bundleMax};
 ghost use Rattle.pieces.specs.Note.{absent, Right};
@@ -36,20 +36,6 @@ pub fn scan_for(indexes: &[u8], held: usize, index: u8) -> Scan
         k += 1;
     }
     Scan { held: found, above }
-}
-
-// The sum of the first `held` lengths.
-pub fn octets_held(lengths: &[u16], held: usize) -> usize
-    requires { ⌜ (held ≤ length (now lengths)) × (held ≤ 64) ⌝ }
-    ensures { λ r. ⌜ r ≡ Spec.sumOf (take held (now (lengths .entry))) ⌝ }
-{
-    let mut sum = 0u32;
-    let mut k = 0;
-    while k < held {
-        sum += lengths[k] as u32;
-        k += 1;
-    }
-    sum as usize
 }
 
 // Where a search for an index begins, and every later search for a greater one: past the piece at a place, if its index is lower.
@@ -116,7 +102,7 @@ fn note_pieces<'a>(
     starts: &mut [u16],
     sizes: &mut [u16],
 )
-    requires { ⌜ (held ≤ length (now indexes)) × (held ≤ length (now lengths)) × (Spec.sumOf (take held (now lengths)) ≤ bundleMax) ⌝ }
+    requires { ⌜ (held ≤ length (now indexes)) × (held ≤ length (now lengths)) × (sumOf (take held (now lengths)) ≤ bundleMax) ⌝ }
     requires { ⌜ (now starts ≡ replicate 64 absent) × (now sizes ≡ replicate 64 0) ⌝ }
     ensures { λ _. ⌜ Right (take held (now (indexes .entry))) (take held (now (lengths .entry))) (now (starts .exit)) (now (sizes .exit)) ⌝ }
 {
@@ -188,7 +174,7 @@ pub fn join<'a>(
     out: &mut [u8],
 ) -> usize
     requires { ⌜ (held ≤ length (now indexes)) × (held ≤ length (now lengths)) × (held ≤ 64) × (last < 64) ⌝ }
-    requires { ⌜ (Spec.sumOf (take held (now lengths)) ≤ length (now cell)) × (Spec.sumOf (take held (now lengths)) ≤ length (now out)) × (Spec.sumOf (take held (now lengths)) ≤ bundleMax) ⌝ }
+    requires { ⌜ (sumOf (take held (now lengths)) ≤ length (now cell)) × (sumOf (take held (now lengths)) ≤ length (now out)) × (sumOf (take held (now lengths)) ≤ bundleMax) ⌝ }
     ensures { λ r. ⌜ Spec.Joined (Spec.joined false (last + 1) (take held (now (indexes .entry))) (take held (now (lengths .entry))) (now (cell .entry))) (now (out .entry)) r (now (out .exit)) ⌝ }
 {
     let mut starts = [ABSENT; 64];

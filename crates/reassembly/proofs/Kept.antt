@@ -1,6 +1,6 @@
 -- What a segment, an end or a cancel keeps: a sound row stays sound, lengths stay, and a bundle that is handed out fits.
 use mathlib.Core.Path.{_≡_, refl, ap, _∙_}
-use mathlib.Core.Bool.{Bool, true, false, not, _&&_, _||_, Bool·beq}
+use mathlib.Core.Bool.{Bool, true, false, cond, not, _&&_, _||_, Bool·beq}
 use mathlib.Core.Option.{Option, none, some}
 use mathlib.Core.List.{List, [], _∷_, _++_}
 use Prim.Native.Nat.{ℕ, _+_, _≤_, _<_}
@@ -10,14 +10,15 @@ use lib.ListN.{length, drop, set, length-set}
 use lib.Seq.{take-suc-set}
 use lib.Dec.{eqb, ltb, leb}
 use borrow.Author.Tests.{eq-eqb, ltb-false, le-leb}
-use Rattle.octets.specs.Octets.{put}
+use Rattle.octets.specs.Octets.{put, sumOf}
 use Rattle.octets.proofs.Flags.{and, neither, cond-elim}
 use Rattle.octets.proofs.Put.{length-put}
-use Rattle.pieces.specs.Pieces.{bundleMax, has, hasAbove, hasAll, distinct, sumOf, isZeros, lowAndDistinct, zeroFrom}
+use Rattle.pieces.specs.Pieces.{bundleMax, has, hasAbove, hasAll, distinct, isZeros, lowAndDistinct, zeroFrom}
 use Rattle.pieces.proofs.Appending.{sum-snoc, has-last, has-more, above-snoc, distinct-snoc, zeros-after}
 use Rattle.pieces.proofs.Joining.{joined-fits}
 use Rattle.row.specs.declared.Row.{Row}
 use Rattle.row.specs.declared.Verdict.{Verdict}
+use Rattle.row.specs.declared.Phase.{Phase}
 use Rattle.row.specs.declared.Phase.the-variants.{Done, Cancelled, Abandoned}
 use Rattle.row.specs.Row.{indexesOf, lengthsOf, emptyRow, isLive, contradiction, contradicts, soundLast, soundPieces, soundOpen, soundRow}
 use Rattle.row.proofs.Shaped.{Shaped, empty-shaped}
@@ -54,6 +55,18 @@ last-after false last is held i true k u c a =
     all-of-last i (is ++ i ∷ []) (has-last i is) (above-snoc i i is d (omega arith)) a
 last-after false last is held i false k u c a = eq-eqb last 0 (u refl)
 
+-- the octets of a bundle, and those that a row holds
+unfoldable pub bundleSize : Option (List ℕ) → ℕ
+bundleSize none = 0
+bundleSize (some b) = length b
+
+abbrev pub weight : Row → ℕ
+weight r = sumOf (lengthsOf r)
+
+pub empty-weight : (p : Phase) → weight (emptyRow p) ≡ 0
+unfolding lengthsOf sumOf
+empty-weight p = refl
+
 -- ---- a row with one piece more
 
 module _ (r : Row) (ending : Bool) (i n : ℕ) (S : Sound r) (Z : Shaped r) (A : Accepted r ending i n) where
@@ -67,6 +80,9 @@ module _ (r : Row) (ending : Bool) (i n : ℕ) (S : Sound r) (Z : Shaped r) (A :
   lengths-after : lengthsOf (withPiece r ending i n) ≡ lengthsOf r ++ n ∷ []
   unfolding lengthsOf withPiece
   lengths-after = rw add-one (take-suc-set (r .lengths) (r .held) n (omega (arith, space, Z .lengths64)))
+
+  weight-after : weight (withPiece r ending i n) ≡ weight r + n
+  weight-after = rw (lengths-after, sum-snoc)
 
   pub joinable : Joinable (withPiece r ending i n)
   unfolding withPiece
@@ -151,3 +167,20 @@ module _ (falling ending : Bool) (i : ℕ) (d : List ℕ) (r : Row) (cell : List
     where
       nothing : none ≡ some b → length b ≤ bundleMax
       nothing e = let z : _≡_ {A = ℕ} 0 1 = cc in absurd (omega arith)
+
+  -- what a row holds and what it hands out was held before, or came with the piece
+  pub piece-weight : soundRow r ≡ true → Shaped r → length cell ≡ bundleMax
+      → weight (pieceStep falling ending i d r cell .row) + bundleSize (pieceStep falling ending i d r cell .bundle) ≤ weight r + length d
+  unfolding settle bundleOf bundleSize
+  piece-weight s z l =
+      by-verdict (λ (o : Outcome). weight (o .row) + bundleSize (o .bundle) ≤ weight r + length d) (omega (arith, empty-weight Abandoned)) (omega arith)
+      (λ a.
+      let q : Row = withPiece r ending i (length d) in
+      let after : weight q ≡ weight r + length d = weight-after r ending i (length d) (sound-facts r s) z a in
+      let room = length-put cell (sumOf (lengthsOf r)) d (omega (arith, a .fits)) in
+      let fits : length (bundleOf falling q (put cell (sumOf (lengthsOf r)) d)) ≤ weight q = joined-fits (indexesOf q) (lengthsOf q) (put cell (sumOf (lengthsOf r)) d) (omega (arith, a .fits)) falling (q .last + 1) in
+      completed (complete q) q (bundleOf falling q (put cell (sumOf (lengthsOf r)) d)) (weight r + length d) (omega arith) (omega arith))
+    where
+      completed : (c : Bool) (q : Row) (b : List ℕ) (n : ℕ) → weight q ≤ n → length b ≤ n → weight (cond c (emptyRow Done) q) + bundleSize (cond c (some b) none) ≤ n
+      completed true q b n h k = omega (arith, empty-weight Done)
+      completed false q b n h k = omega arith

@@ -6,8 +6,8 @@ ghost use mathlib.Core.Path.{_≡_};
 ghost use mathlib.Core.Bool.{true, false};
 ghost use Prim.Native.Nat.{_+_, _≤_, _<_};
 ghost use lib.ListN.{length};
-ghost use Rattle.octets.specs.Octets.{put};
-ghost use Rattle.pieces.specs.Pieces.{bundleMax, sumOf};
+ghost use Rattle.octets.specs.Octets.{put, sumOf};
+ghost use Rattle.pieces.specs.Pieces.{bundleMax};
 ghost use Rattle.row.specs.Row.{lengthsOf, soundRow};
 ghost use Rattle.reassembly.specs.Rules as Spec;
 

@@ -1,8 +1,8 @@
 -- A receiving call by cases, and the messages of a frame treated one after the other, of which each call treats some.
 use mathlib.Core.Path.{_≡_, refl, ap}
-use mathlib.Core.Bool.{Bool, true, false, _||_}
+use mathlib.Core.Bool.{true, false, _||_}
 use mathlib.Core.Option.{Option, none, some}
-use mathlib.Core.List.{List, [], _∷_, _++_, map}
+use mathlib.Core.List.{List, [], _∷_, _++_}
 use Prim.Native.Nat.{ℕ, _+_, _*_, _≤_, _<_}
 use native.Mathlib.Omega.{arith}
 use lib.ListN.{length, take, drop}
@@ -10,31 +10,14 @@ use lib.Seq.{take-append-seam}
 use lib.Dec.{eqb, ltb}
 use borrow.Author.Tests.{eq-eqb, ne-eqb, le-ltb}
 use Rattle.octets.specs.Octets.{put}
-use Rattle.wire.specs.Message.{Message}
-use Rattle.wire.specs.Frame.{Item, row, items, scanned, starts, checked, judged, from}
+use Rattle.wire.specs.Frame.{Item, row, items, scanned, starts, checked, judged, from, frameMax}
 use Rattle.pieces.specs.Pieces.{bundleMax}
 use Rattle.receiver.specs.declared.Refusal.{Refusal}
 use Rattle.receiver.specs.declared.Answer.the-variants.{Delivered, Finished, Refused}
 use Rattle.rows.specs.State as State
-use Rattle.rows.specs.Message.{Draft, Board, Handed, step, frameMax, messagesFrom}
+use Rattle.rows.specs.Message.{Draft, Board, Handed, step, messagesFrom}
+use Rattle.rows.specs.Messages.{listed, boardAfter, handedBy, messagesIn}
 use Rattle.receiver.specs.Receive.{frameRefusal, replied, delivered, refusal, treat, receive}
-
--- what messages hand out, and the board that they leave
-unfoldable pub listed : Option Handed → List Handed
-listed none = []
-listed (some h) = h ∷ []
-
-module _ (w : ℕ) (falling : Bool) where
-  unfoldable pub boardAfter : Board → List Message → Board
-  boardAfter b [] = b
-  boardAfter b (m ∷ ms) = boardAfter (step w falling b m .board) ms
-
-  unfoldable pub handedBy : Board → List Message → List Handed
-  handedBy b [] = []
-  handedBy b (m ∷ ms) = listed (step w falling b m .handed) ++ handedBy (step w falling b m .board) ms
-
-abbrev pub messagesIn : List Item → List Message
-messagesIn is = map (λ (i : Item). i .message) is
 
 module _ (D : Draft) (w : ℕ) where
   -- A call is refused and changes nothing, or treats the messages from its place on.

@@ -10,13 +10,13 @@ use lib.Dec.{eqb, ltb}
 use lib.ListN.{length}
 use borrow.Author.Tests.{eqb-true, eqb-false, ltb-false, not-false}
 use Rattle.octets.proofs.Flags.{bool, neither}
-use Rattle.wire.specs.Frame.{checked}
+use Rattle.wire.specs.Frame.{checked, frameMax}
 use Rattle.wire.specs.Message.{faultNumber}
 use Rattle.wire.specs.declared.Checked.{Checked}
 use Rattle.wire.specs.declared.Checked.the-variants as Frame
 use Rattle.wire.specs.declared.Fault.the-variants.{ShortHeader, PastFrame, PastMessage, BadContent}
 use Rattle.pieces.specs.Pieces.{bundleMax}
-use Rattle.rows.specs.Message.{Draft, Board, frameMax, messagesFrom}
+use Rattle.rows.specs.Message.{Draft, Board, messagesFrom}
 use Rattle.receiver.specs.Receive.{refusalNumber, frameRefusal, replied, refusal, treat, receive}
 use Rattle.receiver.specs.Steps.{admission}
 use Rattle.rows.specs.State.{sound}

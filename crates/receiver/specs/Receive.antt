@@ -9,7 +9,7 @@ use Rattle.octets.specs.Octets.{put}
 use Rattle.wire.specs.Message.{faultNumber}
 use Rattle.wire.specs.declared.Checked.{Checked}
 use Rattle.wire.specs.declared.Checked.the-variants as Frame
-use Rattle.wire.specs.Frame.{Item, checked}
+use Rattle.wire.specs.Frame.{Item, checked, frameMax}
 use Rattle.pieces.specs.Pieces.{bundleMax}
 use Rattle.receiver.specs.declared.Answer.{Answer}
 use Rattle.receiver.specs.declared.Answer.the-variants.{Delivered, Finished, Refused}
@@ -17,7 +17,7 @@ use Rattle.receiver.specs.declared.Refusal.{Refusal}
 use Rattle.receiver.specs.declared.Refusal.the-variants.{Unsound, BufferSize, FrameSize, Malformed, Misplaced}
 use Rattle.receiver.specs.declared.Received.{Received}
 use Rattle.rows.specs.State.{sound}
-use Rattle.rows.specs.Message.{Draft, frameMax, messagesFrom, Board, Handed, Outcome, step}
+use Rattle.rows.specs.Message.{Draft, messagesFrom, Board, Handed, Outcome, step}
 
 -- document 01's numbers of refusal, and the place that the answer names: the first bad message's start, for 4 to 8
 abbrev pub refusalNumber : Refusal → ℕ

@@ -6,7 +6,8 @@ use native.Mathlib.Omega.{arith}
 use lib.Dec.{ltb}
 use borrow.Author.Tests.{ltb-false}
 use Rattle.octets.proofs.Flags.{cond-elim}
-use Rattle.pieces.specs.Pieces.{bundleMax, has, sumOf}
+use Rattle.octets.specs.Octets.{sumOf}
+use Rattle.pieces.specs.Pieces.{bundleMax, has}
 use Rattle.row.specs.declared.Row.{Row}
 use Rattle.row.specs.declared.Verdict.{Verdict}
 use Rattle.row.specs.declared.Verdict.the-variants.{Stays, Abandons, Accepts}

@@ -9,7 +9,8 @@ use lib.Seq.{length-take-le}
 use lib.Dec.{eqb, leb}
 use borrow.Author.Tests.{eqb-true, leb-true, not-true}
 use Rattle.octets.proofs.Flags.{both}
-use Rattle.pieces.specs.Pieces.{bundleMax, has, hasAbove, hasAll, distinct, sumOf, isZeros, lowAndDistinct, zeroFrom}
+use Rattle.octets.specs.Octets.{sumOf}
+use Rattle.pieces.specs.Pieces.{bundleMax, has, hasAbove, hasAll, distinct, isZeros, lowAndDistinct, zeroFrom}
 use Rattle.pieces.proofs.Counting.{above-has, lack-cons, held-and-lacking, low-distinct}
 use Rattle.row.specs.declared.Row.{Row}
 use Rattle.row.specs.declared.Phase.{Phase}

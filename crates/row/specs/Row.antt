@@ -5,7 +5,8 @@ use mathlib.Core.List.{List}
 use Prim.Native.Nat.{ℕ, _+_}
 use lib.ListN.{take, replicate}
 use lib.Dec.{ltb, leb, eqb}
-use Rattle.pieces.specs.Pieces.{bundleMax, has, hasAbove, hasAll, sumOf, lowAndDistinct, zeroFrom}
+use Rattle.octets.specs.Octets.{sumOf}
+use Rattle.pieces.specs.Pieces.{bundleMax, has, hasAbove, hasAll, lowAndDistinct, zeroFrom}
 use Rattle.row.specs.declared.Row.{Row}
 use Rattle.row.specs.declared.Verdict.{Verdict}
 use Rattle.row.specs.declared.Verdict.the-variants.{Stays, Abandons, Accepts}

@@ -101,7 +101,7 @@ fn judge_live(row: Row, index: u32, length: usize, ending: bool) -> Verdict
     if scan.held {
         return Verdict::Stays;
     }
-    let at = pieces::octets_held(&row.lengths[..], held);
+    let at = octets::sum_of(&row.lengths[..], held);
     if BUNDLE_MAX - at < length {
         return Verdict::Abandons;
     }
@@ -150,7 +150,7 @@ fn sound_pieces(row: Row) -> bool
 {
     let held = row.held;
     if pieces::distinct(&row.indexes[..], held) {
-        let sum = pieces::octets_held(&row.lengths[..], held);
+        let sum = octets::sum_of(&row.lengths[..], held);
         let zero = pieces::zero_from(&row.indexes[..], &row.lengths[..], held);
         return (sum <= BUNDLE_MAX) & zero;
     }

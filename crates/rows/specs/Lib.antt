@@ -1,3 +1,4 @@
 pub mod State
 pub mod Message
+pub mod Messages
 pub mod Visit

@@ -32,9 +32,9 @@ pub record Draft : Type 0 where
 abbrev pub draft02 : Draft
 draft02 = record { read = Layout.read; falling = false }
 
--- the most octets of a frame
-abbrev pub frameMax : ℕ
-frameMax = 2048
+-- the draft of a receiver
+abbrev pub draftOf : State → Draft
+draftOf s = draft02
 
 -- the messages of a frame from a place on
 unfoldable pub messagesFrom : Draft → List ℕ → ℕ → List Item

@@ -4,11 +4,16 @@ use mathlib.Core.List.{List, [], _∷_}
 use Prim.Native.Nat.{ℕ}
 use lib.ListN.{replicate}
 use lib.Dec.{eqb}
+use Rattle.window.specs.Window.{windowSize}
 use Rattle.row.specs.declared.Row.{Row}
 use Rattle.row.specs.declared.Phase.{Phase}
 use Rattle.row.specs.declared.Phase.the-variants.{Free, Open, Done, Cancelled, Abandoned}
 use Rattle.row.specs.Row.{emptyRow, soundRow}
 use Rattle.rows.specs.declared.State.{State}
+
+-- the window of a receiver
+abbrev pub windowOf : State → ℕ
+windowOf s = windowSize
 
 -- a fresh receiver of window w: G absent, all rows Free
 unfoldable pub fresh : ℕ → State

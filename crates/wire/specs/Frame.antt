@@ -11,6 +11,10 @@ use Rattle.wire.specs.declared.Checked.{Checked}
 use Rattle.wire.specs.declared.Checked.the-variants.{Accepted, Malformed, Misplaced}
 use Rattle.wire.specs.Message.{Message, Read, bad, good}
 
+-- the most octets of a frame
+abbrev pub frameMax : ℕ
+frameMax = 2048
+
 -- A message in its frame.
 pub record Item : Type 0 where
   pub start : ℕ

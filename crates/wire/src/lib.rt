@@ -6,6 +6,9 @@ ghost use Rattle.wire.specs.Message.{answer, faultNumber};
 ghost use Rattle.wire.specs.Layout.{zeros, kindOf, lengthField, chain, hints, left, walked, fitting, bodied, read};
 ghost use Rattle.wire.specs.Frame.{checked, readingChecked};
 
+// The most octets of a frame.
+pub const FRAME_MAX: usize = 2048;
+
 pub enum Kind {
     Skipped,
     Bundle,

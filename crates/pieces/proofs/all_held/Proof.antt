@@ -4,7 +4,8 @@ use mathlib.Core.Bool.{true}
 use Prim.Native.Nat.{_+_, _-_, _≤_}
 use native.Mathlib.Omega.{arith}
 use lib.ListN.{take}
-use Rattle.pieces.proofs.Lists.{rest, has-here, has-there, has-none, all-turn, all-lacks, all-done}
+use Rattle.octets.proofs.Rest.{rest}
+use Rattle.pieces.proofs.Lists.{has-here, has-there, has-none, all-turn, all-lacks, all-done}
 use Rattle.pieces.proofs.Passing.{Left, left-past}
 use Rattle.pieces.specs.Pieces.{has, hasAll}
 use borrow.Author.Needs.{needs}

@@ -4,7 +4,7 @@ use mathlib.Core.Path.{_≡_, refl}
 use Prim.Native.Nat.{_-_}
 use native.Mathlib.Omega.{arith}
 use lib.ListN.{length, take, length-set}
-use Rattle.pieces.proofs.Lists.{rest}
+use Rattle.octets.proofs.Rest.{rest}
 use Rattle.pieces.proofs.Apart.{apart, apart-none, apart-high, apart-turn, apart-end}
 use Rattle.pieces.specs.Pieces.{lowAndDistinct}
 use borrow.Author.Needs.{needs}

@@ -5,8 +5,8 @@ use mathlib.Core.List.{List}
 use Prim.Native.Nat.{ℕ, _+_, _-_, _≤_, _<_}
 use native.Mathlib.Omega.{arith}
 use lib.ListN.{length, take, getD}
-use Rattle.octets.specs.Octets.{put}
-use Rattle.pieces.specs.Pieces.{joined, sumOf, sizeOf}
+use Rattle.octets.specs.Octets.{put, sumOf}
+use Rattle.pieces.specs.Pieces.{joined, sizeOf}
 use Rattle.pieces.specs.Note.{Right}
 use Rattle.pieces.proofs.Joining.{joined-part, joined-turn, joined-done, joined-zero}
 use Rattle.pieces.proofs.Noting.{Lies, lies}

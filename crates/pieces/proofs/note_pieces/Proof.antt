@@ -3,9 +3,10 @@ use mathlib.Core.Path.{_≡_, refl, sym, _∙_}
 use Prim.Native.Nat.{_+_, _-_, _≤_}
 use native.Mathlib.Omega.{arith}
 use lib.ListN.{length, take, getD}
-use Rattle.pieces.specs.Pieces.{bundleMax, sumOf}
+use Rattle.octets.specs.Octets.{sumOf}
+use Rattle.pieces.specs.Pieces.{bundleMax}
 use Rattle.pieces.specs.Note.{Right}
-use Rattle.pieces.proofs.Lists.{rest, sum-turn}
+use Rattle.octets.proofs.Rest.{rest, sum-turn}
 use Rattle.pieces.proofs.Appending.{sum-next}
 use Rattle.pieces.proofs.Noting.{right-none, right-turn}
 use borrow.Author.Needs.{needs}

@@ -4,7 +4,8 @@ use mathlib.Core.Bool.{_||_}
 use Prim.Native.Nat.{_-_}
 use native.Mathlib.Omega.{arith}
 use lib.ListN.{take}
-use Rattle.pieces.proofs.Lists.{rest, has-turn, above-turn, has-end, above-end}
+use Rattle.octets.proofs.Rest.{rest}
+use Rattle.pieces.proofs.Lists.{has-turn, above-turn, has-end, above-end}
 use Rattle.pieces.specs.Pieces.{has, hasAbove}
 use borrow.Author.Needs.{needs}
 use Rattle.pieces.proofs.scan_for.Statement.{statement}

@@ -2,7 +2,7 @@
 use mathlib.Core.Path.{_≡_, refl, sym, _∙_}
 use native.Mathlib.Omega.{arith}
 use lib.ListN.{length}
-use Rattle.pieces.specs.Pieces.{sumOf}
+use Rattle.octets.specs.Octets.{sumOf}
 use Rattle.row.proofs.Sound.{sound-facts}
 use Rattle.row.proofs.Judging.{Accepted, accepted}
 use Rattle.row.proofs.Shaped.{Shaped}

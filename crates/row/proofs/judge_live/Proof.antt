@@ -3,7 +3,8 @@ use Prim.Native.Nat.{_+_}
 use native.Mathlib.Omega.{arith}
 use lib.ListN.{take}
 use borrow.Author.Tests.{lt-ltb, le-ltb}
-use Rattle.pieces.specs.Pieces.{bundleMax, sumOf}
+use Rattle.octets.specs.Octets.{sumOf}
+use Rattle.pieces.specs.Pieces.{bundleMax}
 use Rattle.row.proofs.Sound.{sound-facts}
 use Rattle.row.specs.Row.{indexesOf, lengthsOf, contradicts, judgeLive}
 use borrow.Author.Needs.{needs}
@@ -37,19 +38,19 @@ returns-3 c =
     let a = s .before .before .before .before .before .args in
     rw (le-ltb 63 (a .index) (s .before .before .before .before .if1 .left), ← s .scan-for .ensures .held, ← s .scan-for .ensures .above, ← c .before .before .contradicts .ensures, c .before .if2 .left, c .if3 .taken)
 
-octets-held-requires : tie.Need-octets-held-requires
-octets-held-requires c κs = let s = c .before .before .before .before .before .before .before .before .before .before .before in omega (arith, sound-facts (s .args .t1) (s .pre) .few)
+sum-of-requires : tie.Need-sum-of-requires
+sum-of-requires c κs = let s = c .before .before .before .before .before .before .before .before .before .before .before in omega (arith, sound-facts (s .args .t1) (s .pre) .few)
 
 sub-if4 : tie.Need-sub-if4
 unfolding lengthsOf
-sub-if4 c = let s = c .before .before .before .before .before .before .before .before .before .before .before .before in omega (arith, sound-facts (s .args .t1) (s .pre) .fits, c .octets-held .ensures)
+sub-if4 c = let s = c .before .before .before .before .before .before .before .before .before .before .before .before in omega (arith, sound-facts (s .args .t1) (s .pre) .fits, c .sum-of .ensures)
 
 returns-4 : tie.Need-returns-4
 unfolding judgeLive contradicts indexesOf lengthsOf
 returns-4 c =
     let s = c .before .before .before .before .before .before .before .before in
     let a = s .before .before .before .before .before .args in
-    let over = lt-ltb bundleMax (sumOf (take (a .t1 .held) (a .t1 .lengths)) + a .length) (omega (arith, c .before .octets-held .ensures)) in
+    let over = lt-ltb bundleMax (sumOf (take (a .t1 .held) (a .t1 .lengths)) + a .length) (omega (arith, c .before .sum-of .ensures)) in
     rw (le-ltb 63 (a .index) (s .before .before .before .before .if1 .left), ← s .scan-for .ensures .held, ← s .scan-for .ensures .above, ← c .before .before .before .before .before .before .before .contradicts .ensures, c .before .before .before .before .before .before .if2 .left, c .before .before .before .before .before .if3 .left, over)
 
 returns-5 : tie.Need-returns-5
@@ -57,7 +58,7 @@ unfolding judgeLive contradicts indexesOf lengthsOf
 returns-5 c =
     let s = c .before .before .before .before .before .before .before .before in
     let a = s .before .before .before .before .before .args in
-    let o = c .before .octets-held .ensures in
+    let o = c .before .sum-of .ensures in
     let fits = le-ltb bundleMax (sumOf (take (a .t1 .held) (a .t1 .lengths)) + a .length) (omega (arith, o, sound-facts (a .t1) (s .before .before .before .before .before .pre) .fits)) in
     rw (le-ltb 63 (a .index) (s .before .before .before .before .if1 .left), ← s .scan-for .ensures .held, ← s .scan-for .ensures .above, ← c .before .before .before .before .before .before .before .contradicts .ensures, c .before .before .before .before .before .before .if2 .left, c .before .before .before .before .before .if3 .left, fits, o)
 
@@ -71,7 +72,7 @@ judge-live-spec =
     contradicts-requires
     returns-2
     returns-3
-    octets-held-requires
+    sum-of-requires
     sub-if4
     returns-4
     returns-5)

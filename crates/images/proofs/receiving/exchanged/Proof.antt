@@ -5,7 +5,7 @@ use mathlib.Core.List.{map}
 use Prim.Native.Nat.{_≤_, _-_}
 use lib.ListN.{length, length-set}
 use Rattle.images.specs.Receiver.{exchange}
-use Rattle.images.proofs.Series.{mapFrom, map-turn, map-end}
+use Rattle.octets.proofs.Series.{mapFrom, map-turn, map-end}
 use borrow.Author.Needs.{needs}
 use Rattle.images.proofs.receiving.exchanged.Statement.{statement}
 use Rattle.images.proofs.receiving.exchanged.Tie as tie

@@ -7,10 +7,10 @@ use Prim.Native.Nat.{_≤_, _-_}
 use lib.ListN.{length, take, drop, length-set, length-map}
 use lib.Seq.{getD-drop}
 use native.Mathlib.Nat.{add-zero}
-use Rattle.octets.specs.Octets.{number16}
-use Rattle.images.specs.Receiver.{pairs, exchange}
-use Rattle.images.proofs.Rows.{pairs-turn, pairs-end}
-use Rattle.images.proofs.Series.{map-set}
+use Rattle.octets.specs.Octets.{number16, pairs}
+use Rattle.images.specs.Receiver.{exchange}
+use Rattle.octets.proofs.Pairs.{pairs-turn, pairs-end}
+use Rattle.octets.proofs.Series.{map-set}
 use Rattle.images.proofs.receiving.pairs_of.Statement.{statement}
 use Rattle.images.proofs.receiving.pairs_of.Tie as tie
 

@@ -26,11 +26,11 @@ add-copy-into c = search needs
 copy-into-requires : tie.Need-copy-into-requires
 copy-into-requires c κs = search needs
 
-add-put-lengths : tie.Need-add-put-lengths
-add-put-lengths c = search needs
+add-put-pairs : tie.Need-add-put-pairs
+add-put-pairs c = search needs
 
-put-lengths-requires : tie.Need-put-lengths-requires
-put-lengths-requires c κs = search needs
+put-pairs-requires : tie.Need-put-pairs-requires
+put-pairs-requires c κs = search needs
 
 same-length : tie.Need-same-length
 same-length c = search needs
@@ -38,7 +38,7 @@ same-length c = search needs
 returns : tie.Need-returns
 returns c =
     let s = c .before .before .before .before .before .before .before .before .before .before .before .before .before .before .before .before .before .before .before .before .before in
-    row-written _ _ _ _ (s .args .at) (s .args .t3) (shaped s) _ _ (c .before .before .before .before .before .before .before .before .before .before .before .before .before .before .before .before .before .before .before .phase-code .ensures) (c .before .before .before .before .before .before .before .before .before .before .before .before .before .before .before .before .before .before .flag .ensures) (s .pre) (c .before .before .before .before .before .before .before .before .before .before .before .before .before .before .before .before .put-four .ensures) (c .before .before .before .before .before .before .before .before .before .copy-into .ensures) (c .before .before .put-lengths .ensures)
+    row-written _ _ _ _ (s .args .at) (s .args .t3) (shaped s) _ _ (c .before .before .before .before .before .before .before .before .before .before .before .before .before .before .before .before .before .before .before .phase-code .ensures) (c .before .before .before .before .before .before .before .before .before .before .before .before .before .before .before .before .before .before .flag .ensures) (s .pre) (c .before .before .before .before .before .before .before .before .before .before .before .before .before .before .before .before .put-four .ensures) (c .before .before .before .before .before .before .before .before .before .copy-into .ensures) (c .before .before .put-pairs .ensures)
 
 pub put-row-spec : {M : Type 1} → statement M
 put-row-spec =
@@ -50,7 +50,7 @@ put-row-spec =
     put-four-requires
     add-copy-into
     copy-into-requires
-    add-put-lengths
-    put-lengths-requires
+    add-put-pairs
+    put-pairs-requires
     same-length
     returns)

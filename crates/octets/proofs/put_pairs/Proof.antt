@@ -1,22 +1,20 @@
--- `images::receiving::put_lengths` meets its contract. The first j lengths are written.
-
+-- `octets::put_pairs` meets its contract. The first j numbers are written.
 use native.Mathlib.Omega.{arith}
 use mathlib.Core.Path.{_≡_, refl, sym}
 use Prim.Native.Nat.{_*_, _≤_, _-_}
 use lib.ListN.{length, take}
-use Rattle.octets.specs.Octets.{put}
 use Rattle.octets.proofs.Put.{put-none}
-use Rattle.images.specs.Receiver.{spread}
-use Rattle.images.proofs.Rows.{spread-turn, spread-end}
+use Rattle.octets.specs.Octets.{spread, put}
+use Rattle.octets.proofs.Pairs.{spread-turn, spread-end}
 use borrow.Author.Needs.{needs}
-use Rattle.images.proofs.receiving.put_lengths.Statement.{statement}
-use Rattle.images.proofs.receiving.put_lengths.Tie as tie
+use Rattle.octets.proofs.put_pairs.Statement.{statement}
+use Rattle.octets.proofs.put_pairs.Tie as tie
 
 abbrev Inv-loop : tie.InvT-loop
-Inv-loop image₀ at lengths j₀ image j = (j ≤ length lengths) × (image ≡ put image₀ at (spread (take j lengths))) × (length (spread (take j lengths)) ≡ j * 2) × (length image ≡ length image₀)
+Inv-loop to₀ at numbers j₀ to j = (j ≤ length numbers) × (to ≡ put to₀ at (spread (take j numbers))) × (length (spread (take j numbers)) ≡ j * 2) × (length to ≡ length to₀)
 
 abbrev μ-loop : tie.MeasureT-loop
-μ-loop image₀ at lengths j₀ image j = length lengths - j
+μ-loop to₀ at numbers j₀ to j = length numbers - j
 
 loop-holds : tie.Need-loop-holds Inv-loop μ-loop
 unfolding spread
@@ -44,16 +42,16 @@ loop-less : tie.Need-loop-less Inv-loop μ-loop
 loop-less c = omega arith
 
 loop-again : tie.Need-loop-again Inv-loop μ-loop
-loop-again c = let l = c .before .before .before .before .before .before .loop in let a = c .before .before .before .before .before .before .before .before .before .args in let t = spread-turn _ _ _ (a .lengths .now) (a .at) (l .j) (l .inv .1) (l .inv .2) (omega arith) (omega (arith, c .before .before .before .before .before .before .before .before .before .pre)) (c .before .before .put-number16 .ensures) in (omega arith, t .0, t .1, search needs)
+loop-again c = let l = c .before .before .before .before .before .before .loop in let a = c .before .before .before .before .before .before .before .before .before .args in let t = spread-turn _ _ _ (a .numbers .now) (a .at) (l .j) (l .inv .1) (l .inv .2) (omega arith) (omega (arith, c .before .before .before .before .before .before .before .before .before .pre)) (c .before .before .put-number16 .ensures) in (omega arith, t .0, t .1, search needs)
 
 same-length : tie.Need-same-length Inv-loop μ-loop
 same-length c = omega arith
 
 returns : tie.Need-returns Inv-loop μ-loop
-returns c = let l = c .before .loop in let a = c .before .before .before .before .args in spread-end _ _ (a .lengths .now) (a .at) (l .j) (l .inv .1) (omega arith)
+returns c = let l = c .before .loop in let a = c .before .before .before .before .args in spread-end _ _ (a .numbers .now) (a .at) (l .j) (l .inv .1) (omega arith)
 
-pub put-lengths-spec : {M : Type 1} → statement M
-put-lengths-spec =
+pub put-pairs-spec : {M : Type 1} → statement M
+put-pairs-spec =
     tie.close
     (tie.spec
     Inv-loop

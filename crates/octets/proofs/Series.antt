@@ -7,13 +7,13 @@ use native.Mathlib.Numerals.{add-one}
 use native.Mathlib.Omega.{arith}
 use lib.ListN.{length, getD, take, drop, set, length-append, drop-of-length-le}
 use lib.Seq.{take-all, take-suc, take-suc-set, drop-drop}
 use Rattle.octets.specs.Octets.{put}
 use Rattle.octets.proofs.Put.{put-put}
 
 -- g reads n items of w octets, each by f
 module _ {A : Type 0} (w : ℕ) (f : List ℕ → A) (g : ℕ → List ℕ → List A) (none : (xs : List ℕ) → g zero xs ≡ [])
     (more : (n : ℕ) (xs : List ℕ) → g (suc n) xs ≡ f xs ∷ g n (drop w xs)) where
-  read-last : (k : ℕ) (xs : List ℕ) → g (suc k) xs ≡ g k xs ++ (f (drop (k * w) xs) ∷ [])
+  pub read-last : (k : ℕ) (xs : List ℕ) → g (suc k) xs ≡ g k xs ++ (f (drop (k * w) xs) ∷ [])
   read-last zero xs = more zero xs ∙ rw (none (drop w xs), none xs, zero-mul w)
   read-last (suc k) xs =
       let e : w + k * w ≡ suc k * w = add-comm w (k * w) ∙ sym (suc-mul k w) in

@@ -1,19 +1,19 @@
--- `pieces::octets_held` meets its contract. The sum so far and the lengths yet to be added are the sum of all. Assumes nothing.
+-- `octets::sum_of` meets its contract. The sum so far and the numbers yet to be added are the sum of all. Assumes nothing.
 use mathlib.Core.Path.{_≡_}
 use Prim.Native.Nat.{_+_, _-_, _*_, _≤_}
 use native.Mathlib.Omega.{arith}
 use lib.ListN.{take}
-use Rattle.pieces.proofs.Lists.{rest, sum-turn, sum-end}
-use Rattle.pieces.specs.Pieces.{sumOf}
+use Rattle.octets.proofs.Rest.{rest, sum-turn, sum-end}
+use Rattle.octets.specs.Octets.{sumOf}
 use borrow.Author.Needs.{needs}
-use Rattle.pieces.proofs.octets_held.Statement.{statement}
-use Rattle.pieces.proofs.octets_held.Tie as tie
+use Rattle.octets.proofs.sum_of.Statement.{statement}
+use Rattle.octets.proofs.sum_of.Tie as tie
 
 abbrev Inv-loop : tie.InvT-loop
-Inv-loop lengths held sum₀ k₀ sum k = (sumOf (take held lengths) ≡ sum + sumOf (rest k held lengths)) × (sum ≤ 65535 * k) × (k ≤ held)
+Inv-loop numbers count sum₀ k₀ sum k = (sumOf (take count numbers) ≡ sum + sumOf (rest k count numbers)) × (sum ≤ 65535 * k) × (k ≤ count)
 
 abbrev μ-loop : tie.MeasureT-loop
-μ-loop lengths held sum₀ k₀ sum k = held - k
+μ-loop numbers count sum₀ k₀ sum k = count - k
 
 loop-holds : tie.Need-loop-holds Inv-loop μ-loop
 loop-holds c = (omega arith, omega arith, omega arith)
@@ -37,16 +37,16 @@ loop-less : tie.Need-loop-less Inv-loop μ-loop
 loop-less c = search needs
 
 loop-again : tie.Need-loop-again Inv-loop μ-loop
-loop-again c = let l = c .before .before .loop in let a = c .before .before .before .args in (omega (arith, sum-turn (l .k) (a .held) (a .lengths .now) (omega arith) (omega arith)), omega (arith, c .shared-slice-known .given (c .before .before .loop .k)), omega arith)
+loop-again c = let l = c .before .before .loop in let a = c .before .before .before .args in (omega (arith, sum-turn (l .k) (a .count) (a .numbers .now) (omega arith) (omega arith)), omega (arith, c .shared-slice-known .given (c .before .before .loop .k)), omega arith)
 
 cast-result : tie.Need-cast-result Inv-loop μ-loop
 cast-result c = search needs
 
 returns : tie.Need-returns Inv-loop μ-loop
-returns c = let l = c .before .loop in let a = c .before .before .args in omega (arith, sum-end (l .k) (a .held) (a .lengths .now) (omega arith) (omega arith))
+returns c = let l = c .before .loop in let a = c .before .before .args in omega (arith, sum-end (l .k) (a .count) (a .numbers .now) (omega arith) (omega arith))
 
-pub octets-held-spec : {M : Type 1} → statement M
-octets-held-spec =
+pub sum-of-spec : {M : Type 1} → statement M
+sum-of-spec =
     tie.close
     (tie.spec
     Inv-loop
