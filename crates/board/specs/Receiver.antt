@@ -2,17 +2,16 @@
 use mathlib.Core.Bool.{cond}
 use mathlib.Core.Option.{Option, none, some}
 use mathlib.Core.List.{List, [], _∷_}
-use Prim.Native.Nat.{ℕ, _^_}
+use Prim.Native.Nat.{ℕ}
 use lib.ListN.{length, set}
 use lib.Dec.{eqb}
 use Rattle.window.specs.Window.{windowSize}
 use Rattle.rows.specs.declared.State.{State}
-use Rattle.rows.specs.declared.Origin.{Origin}
-use Rattle.rows.specs.declared.Origin.the-variants.{Whole, Transfer}
 use Rattle.receiver.specs.declared.Answer.{Answer}
 use Rattle.receiver.specs.declared.Answer.the-variants.{Delivered, Finished, Refused}
-use Rattle.rows.specs.State.{fresh}
-use Rattle.rows.specs.Message.{draft02, Board}
+use Rattle.rows.specs.State.{fresh, windowOf}
+use Rattle.rows.specs.Message.{Board, draftOf}
+use Rattle.messages.specs.Run.{originNumber}
 use Rattle.receiver.specs.Receive.{refusalNumber, refusalPlace, Reply, receive}
 use Rattle.images.specs.Receiver.{imageSize, isImage, stateOf, imageOf}
 
@@ -28,11 +27,6 @@ abbrev pub status : Answer → ℕ
 status (Delivered length next origin) = 0
 status Finished = 0
 status (Refused refusal) = refusalNumber refusal
-
--- the transfer number, or 2 ^ 32 for none
-abbrev pub originNumber : Origin → ℕ
-originNumber Whole = 2 ^ 32
-originNumber (Transfer t) = t
 
 unfoldable pub named : Option ℕ → List ℕ → List ℕ
 named none result = result
@@ -63,7 +57,7 @@ exported r image result =
 unfoldable pub received : List ℕ → List ℕ → List ℕ → ℕ → List ℕ → List ℕ → Exported
 received image pool frame place output result =
     cond (isImage image)
-    (exported (receive draft02 windowSize (record { state = stateOf image; pool = pool }) frame place output) image result)
+    (exported (receive (draftOf (stateOf image)) (windowOf (stateOf image)) (record { state = stateOf image; pool = pool }) frame place output) image result)
     (record { status = 1; image = image; pool = pool; output = output; result = result })
 
 -- a start needs the image's length alone

@@ -1,7 +1,6 @@
 // The receiver's calls, on an image of its state.
 use images::receiving::IMAGE_SIZE;
 use receiver::Answer;
-use receiver::Origin;
 use receiver::Refusal;
 use receiver::State;
 ghost use mathlib.Core.Path.{_≡_};
@@ -11,18 +10,6 @@ ghost use lib.ListN.{length};
 ghost use Rattle.receiver.specs.Receive as Call;
 ghost use Rattle.images.specs.Receiver.{imageSize};
 ghost use Rattle.board.specs.Receiver as Spec;
-
-// A number for "none": no transfer has it.
-const NO_TRANSFER: u64 = 4294967296;
-
-fn origin_number(origin: Origin) -> u64
-    ensures { λ r. ⌜ r ≡ Spec.originNumber origin ⌝ }
-{
-    match origin {
-        Origin::Whole => NO_TRANSFER,
-        Origin::Transfer(number) => number as u64,
-    }
-}
 
 fn status(answer: Answer) -> u32
     ensures { λ r. ⌜ r ≡ Spec.status answer ⌝ }
@@ -62,7 +49,7 @@ fn put_report(result: &mut [u64; 4], answer: Answer)
             next,
             origin,
         } => {
-            let number = origin_number(origin);
+            let number = messages::origin_number(origin);
             *result = [1, length as u64, next as u64, number];
         }
         Answer::Finished => {

@@ -8,7 +8,7 @@ use native.Mathlib.Omega.{arith}
 use native.Mathlib.Nat.{zero-add}
 use lib.ListN.{length, take, drop, length-append, length-drop, take-append-drop}
 use lib.Seq.{take-add}
-use Rattle.octets.specs.Octets.{put, sumOf}
+use Rattle.octets.specs.Octets.{sumOf}
 use Rattle.wire.specs.Message.{Message, skipped, bundle, segment, last, cancel as cancelled}
 use Rattle.wire.specs.Frame.{messages}
 use Rattle.pieces.specs.Pieces.{bundleMax}

@@ -7,14 +7,14 @@ use mathlib.Core.Path.{_≡_, refl, sym, _∙_, subst}
 use Prim.Native.Nat.{ℕ, _+_, _-_, _^_, _≤_, _<_}
 use native.Mathlib.Omega.{arith}
 use lib.Dec.{ltb, leb}
-use lib.ListN.{length, getD, take, drop, set, length-take, length-drop}
+use lib.ListN.{length, getD, take, drop, set, length-set, length-take, length-drop}
 use borrow.Author.Tests.{ltb-true, ltb-false, leb-true}
 use Rattle.octets.proofs.Flags.{bool, both}
 use Rattle.octets.proofs.Put.{length-put}
-use Rattle.wire.specs.Frame.{Item, Scan, row, items, scanned, checked, from}
+use Rattle.wire.specs.Frame.{Item, Scan, row, items, scanned, from, checked}
+use Rattle.wire.specs.declared.Checked.the-variants.{Accepted}
 use Rattle.wire.specs.Layout.{read, message, fitting}
 use Rattle.wire.specs.Message.{answer}
-use Rattle.wire.specs.declared.Checked.the-variants.{Accepted}
 use Rattle.wire.specs.declared.Fault.{Fault}
 use Rattle.wire.specs.declared.Reading.the-variants.{Good, Bad}
 use Rattle.wire.specs.declared.Kind.{Kind}
@@ -36,11 +36,12 @@ use Rattle.row.specs.declared.Phase.the-variants.{Free}
 use Rattle.row.specs.declared.Row.{Row}
 use Rattle.reassembly.specs.declared.Taken.{Taken}
 use Rattle.row.proofs.Shaped.{Shaped}
-use Rattle.rows.specs.Message.{draft02, Board, Outcome, handedOf, cellAt, step, messagesFrom}
-use Rattle.messages.specs.Run.{Run, admits, rowStep, writtenAt, Lands, size, progressed, advanced, roomy, run}
+use Rattle.rows.specs.Message.{Board, Outcome, handedOf, cellAt, step, messagesFrom}
+use Rattle.messages.specs.Run.{Run, admits, rowStep, writtenAt, Lands, size, listed, numbered, progressed, advanced, roomy, run, runFrom, Able}
 use Rattle.rows.specs.Visit.{visitOf}
 use Rattle.rows.specs.declared.Origin.{Origin}
 use Rattle.rows.specs.declared.Origin.the-variants.{Whole}
+use Rattle.messages.specs.declared.Limits.{Limits}
 use Rattle.messages.specs.declared.Progress.{Progress}
 use Rattle.rows.specs.declared.Visit.{Visit}
 use Rattle.messages.proofs.Visits.{rowsFor, landed, visited, outcome, landed-step, row-fits, Visiting, visiting, visit-slot, visit-admits, Sound, visited-sound, cell-full, landed-sound}
@@ -49,18 +50,38 @@ use Rattle.messages.proofs.Visits.{rowsFor, landed, visited, outcome, l
 abbrev pub left : List ℕ → Run → List Item
 left frame p = items (scanAt read frame (p .progress .next))
 
--- p is how far the run from p₀ over the messages is came, in an output of a size
-pub record Going (limit : ℕ) (frame : List ℕ) (p₀ : Run) (is : List Item) (size : ℕ) (p : Run) : Type 0 where
-  pub same : run windowSize false limit p₀ is ≡ run windowSize false limit p (left frame p)
+-- whether a further message is treated
+abbrev pub goesOn : Limits → List ℕ → Run → Bool
+goesOn limits frame p = ltb (p .progress .next) (length frame) && roomy (p .progress) limits (length (p .output))
+
+-- p is how far the run over a frame from p₀ on came
+pub record Going (limits : Limits) (frame : List ℕ) (p₀ p : Run) : Type 0 where
+  pub same : runFrom limits p₀ frame ≡ run windowSize false limits p (left frame p)
   pub here : scanAt read frame (p .progress .next) ≡ row (left frame p)
   pub ready : Sound windowSize (p .board)
   pub low : p .board .state .greatest < 2 ^ 32
-  pub output : length (p .output) ≡ size
-  pub used : p .progress .used ≤ size
+  pub used : p .progress .used ≤ length (p₀ .output)
+  pub output : length (p .output) ≡ length (p₀ .output)
+  pub lengths : length (p .lengths) ≡ length (p₀ .lengths)
+  pub numbers : length (p .numbers) ≡ length (p₀ .numbers)
+
+-- a turn of the loop: a message is read
+pub record Turn (limits : Limits) (frame : List ℕ) (p₀ p : Run) : Type 0 where
+  pub going : Going limits frame p₀ p
+  pub test : goesOn limits frame p ≡ true
+  pub span : Span
+  pub told : answer (p .progress .next) (read (drop (p .progress .next) frame)) ≡ Good span
 
 -- a bundle goes behind those that are out
 advanced-by : (p : Run) (b : Board) (next : ℕ) (origin : Origin) (o : Option (List ℕ))
-    → advanced p b next (handedOf origin o) ≡ record { board = b; output = writtenAt (p .progress .used) o (p .output); progress = progressed (p .progress) (deliveryOf o) next origin }
+    → advanced p b next (handedOf origin o)
+    ≡ record {
+      board = b;
+      output = writtenAt (p .progress .used) o (p .output);
+      lengths = listed (p .progress .count) (deliveryOf o) (p .lengths);
+      numbers = numbered (p .progress .count) (deliveryOf o) origin (p .numbers);
+      progress = progressed (p .progress) (deliveryOf o) next origin;
+    }
 unfolding advanced handedOf writtenAt progressed deliveryOf
 advanced-by p b next origin none = refl
 advanced-by p b next origin (some x) = refl
@@ -81,7 +102,15 @@ unfolding progressed deliveryOf
 progressed-used p none next origin n h fits = h
 progressed-used p (some x) next origin n h fits = fits x refl
 
-pub size-fits : (o : Option (List ℕ)) (n : ℕ) → ((x : List ℕ) → o ≡ some x → length x ≤ n) → size (deliveryOf o) ≤ n
+listed-length : (k : ℕ) (d : Delivery) (lengths : List ℕ) → length (listed k d lengths) ≡ length lengths
+listed-length k Nothing lengths = refl
+listed-length k (Bundle n) lengths = length-set lengths k n
+
+numbered-length : (k : ℕ) (d : Delivery) (origin : Origin) (numbers : List ℕ) → length (numbered k d origin numbers) ≡ length numbers
+numbered-length k Nothing origin numbers = refl
+numbered-length k (Bundle n) origin numbers = length-set numbers k _
+
+size-fits : (o : Option (List ℕ)) (n : ℕ) → ((x : List ℕ) → o ≡ some x → length x ≤ n) → size (deliveryOf o) ≤ n
 unfolding deliveryOf
 size-fits none n fits = omega arith
 size-fits (some x) n fits = fits x refl
@@ -94,10 +123,14 @@ skip-step : (w : ℕ) (falling : Bool) (b : Board) (k : Kind) (content : List �
 unfolding step message
 skip-step w falling b k content e = rw e
 
--- A turn of the loop: the message m is read, and goes where v says.
-module _ (limit : ℕ) (frame : List ℕ) (p₀ : Run) (is₀ : List Item) (n : ℕ) (p : Run) (G : Going limit frame p₀ is₀ n p)
-    (test : (ltb (p .progress .next) (length frame) && roomy (p .progress) limit (length (p .output))) ≡ true)
-    (m : Span) (told : answer (p .progress .next) (read (drop (p .progress .next) frame)) ≡ Good m) where
+-- The message m is read, and goes where v says.
+module _ {limits : Limits} {frame : List ℕ} {p₀ p : Run} (T : Turn limits frame p₀ p) where
+  abbrev G : Going limits frame p₀ p
+  G = T .going
+
+  abbrev m : Span
+  m = T .span
+
   abbrev b : Board
   b = p .board
 
@@ -113,29 +146,35 @@ module _ (limit : ℕ) (frame : List ℕ) (p₀ : Run) (is₀ : List Item) (n : 
   abbrev o : Rules.Outcome
   o = outcome windowSize false b v content
 
-  tests : (ltb at (length frame) ≡ true) × (roomy (p .progress) limit (length (p .output)) ≡ true)
-  tests = both (ltb at (length frame)) (roomy (p .progress) limit (length (p .output))) test
+  tests : (ltb at (length frame) ≡ true) × (roomy (p .progress) limits (length (p .output)) ≡ true)
+  tests = both (ltb at (length frame)) (roomy (p .progress) limits (length (p .output))) (T .test)
 
-  rooms : (ltb (p .progress .count) limit ≡ true) × (leb bundleMax (length (p .output) - p .progress .used) ≡ true)
-  rooms = both (ltb (p .progress .count) limit) (leb bundleMax (length (p .output) - p .progress .used)) (tests .1)
+  budget : (ltb (p .progress .treated) (limits .messages) ≡ true) × ((ltb (p .progress .count) (limits .bundles) && leb bundleMax (length (p .output) - p .progress .used)) ≡ true)
+  budget = both (ltb (p .progress .treated) (limits .messages)) _ (tests .1)
+
+  rooms : (ltb (p .progress .count) (limits .bundles) ≡ true) × (leb bundleMax (length (p .output) - p .progress .used) ≡ true)
+  rooms = both (ltb (p .progress .count) (limits .bundles)) (leb bundleMax (length (p .output) - p .progress .used)) (budget .1)
 
   pub at< : at < length frame
   at< = ltb-true at (length frame) (tests .0)
 
-  pub count< : p .progress .count < limit
-  count< = ltb-true (p .progress .count) limit (rooms .0)
+  pub treated< : p .progress .treated < limits .messages
+  treated< = ltb-true (p .progress .treated) (limits .messages) (budget .0)
+
+  pub count< : p .progress .count < limits .bundles
+  count< = ltb-true (p .progress .count) (limits .bundles) (rooms .0)
 
   pub room : p .progress .used + bundleMax ≤ length (p .output)
   room = omega (arith, leb-true bundleMax (length (p .output) - p .progress .used) (rooms .1), G .used, G .output)
 
   pub place : Located frame at m
-  place = located frame at (omega (arith, at<)) m told
+  place = located frame at (omega (arith, at<)) m (T .told)
 
   follows : Next frame at m (left frame p)
-  follows = Items.next frame at (left frame p) (G .here) at< m told
+  follows = Items.next frame at (left frame p) (G .here) at< m (T .told)
 
   -- a message that is passed over
-  pub passed : m .kind ≡ Skipped → Going limit frame p₀ is₀ n (record { board = b; output = p .output; progress = progressed (p .progress) Nothing (m .end) Whole })
+  pub passed : m .kind ≡ Skipped → Going limits frame p₀ (record { board = b; output = p .output; lengths = p .lengths; numbers = p .numbers; progress = progressed (p .progress) Nothing (m .end) Whole })
   unfolding run advanced progressed
   passed e =
       let r = items-row (follows .rest) (follows .then) in
@@ -146,6 +185,8 @@ module _ (limit : ℕ) (frame : List ℕ) (p₀ : Run) (is₀ : List Item) (n : 
         low = G .low;
         output = G .output;
         used = G .used;
+        lengths = G .lengths;
+        numbers = G .numbers;
       }
 
   pub visits : Visiting windowSize (b .state .present) (b .state .greatest) v
@@ -171,7 +212,7 @@ module _ (limit : ℕ) (frame : List ℕ) (p₀ : Run) (is₀ : List Item) (n : 
     admit = visit-admits windowSize sixteen (b .state .present) (b .state .greatest) (m .kind) content fits (omega (arith, length-content, place .ordered, place .within))
 
     module _ (shaped : Shaped (visited windowSize false b v)) where
-      pub bundle-fits : (x : List ℕ) → o .bundle ≡ some x → length x ≤ bundleMax
+      bundle-fits : (x : List ℕ) → o .bundle ≡ some x → length x ≤ bundleMax
       bundle-fits = row-fits false content (visited windowSize false b v) (cellAt (b .pool) (v .slot)) (v .act) admit found-sound shaped cell-long
 
       module _ (low : v .greatest < 2 ^ 32) where
@@ -179,16 +220,22 @@ module _ (limit : ℕ) (frame : List ℕ) (p₀ : Run) (is₀ : List Item) (n : 
         done = landed windowSize false b v o
 
         abbrev next : Run
-        next = record { board = done .board; output = writtenAt (p .progress .used) (o .bundle) (p .output); progress = progressed (p .progress) (deliveryOf (o .bundle)) (m .end) (v .origin) }
+        next = record {
+          board = done .board;
+          output = writtenAt (p .progress .used) (o .bundle) (p .output);
+          lengths = listed (p .progress .count) (deliveryOf (o .bundle)) (p .lengths);
+          numbers = numbered (p .progress .count) (deliveryOf (o .bundle)) (v .origin) (p .numbers);
+          progress = progressed (p .progress) (deliveryOf (o .bundle)) (m .end) (v .origin);
+        }
 
         stepped : done ≡ step windowSize false b (message (m .kind) content)
         stepped = landed-step windowSize sixteen false b (G .ready .rows) (G .ready .pool) (G .low) (m .kind) content low
 
-        same : run windowSize false limit p₀ is₀ ≡ run windowSize false limit next (follows .rest)
+        same : runFrom limits p₀ frame ≡ run windowSize false limits next (follows .rest)
         unfolding run
         same = G .same ∙ rw (follows .first, tests .1, ← stepped, advanced-by p (done .board) (m .end) (v .origin) (o .bundle))
 
-        goes-on : Going limit frame p₀ is₀ n next
+        goes-on : Going limits frame p₀ next
         unfolding progressed
         goes-on =
             let e = progressed-next (p .progress) (deliveryOf (o .bundle)) (m .end) (v .origin) in
@@ -200,8 +247,16 @@ module _ (limit : ℕ) (frame : List ℕ) (p₀ : Run) (is₀ : List Item) (n : 
               ready = landed-sound windowSize sixteen false b (G .ready) content visits shaped;
               low = low;
               output = written-length (p .progress .used) (o .bundle) (p .output) room′ ∙ G .output;
-              used = progressed-used (p .progress) (o .bundle) (m .end) (v .origin) n (G .used) λ x q. omega (arith, room′ x q, G .output);
+              used = progressed-used (p .progress) (o .bundle) (m .end) (v .origin) (length (p₀ .output)) (G .used) λ x q. omega (arith, room′ x q, G .output);
+              lengths = listed-length (p .progress .count) (deliveryOf (o .bundle)) (p .lengths) ∙ G .lengths;
+              numbers = numbered-length (p .progress .count) (deliveryOf (o .bundle)) (v .origin) (p .numbers) ∙ G .numbers;
             }
+
+    -- what is handed out is no longer than a bundle
+    pub handed-fits : (x : Visit) → x ≡ v → (r : Row) → r ≡ visited windowSize false b v → Shaped r
+        → (t : Taken) (pool output : List ℕ) → Lands (rowStep false (x .act) content r (cellAt (b .pool) (x .slot))) (x .slot) (b .pool) (p .progress .used) (p .output) t pool output
+        → size (t .delivery) ≤ bundleMax
+    handed-fits x ex r er z t pool output a = rw (a .delivery) (size-fits _ bundleMax (λ y q. bundle-fits (subst Shaped er z) y (rw (er, ex) at q)))
 
     -- what the code makes of a turn: rows, row, pool, output and progress as they are then
     abbrev Turned : Visit → Type 0
@@ -209,56 +264,60 @@ module _ (limit : ℕ) (frame : List ℕ) (p₀ : Run) (is₀ : List Item) (n : 
         (rows : List Row) → rows ≡ rowsFor windowSize false b x
         → (r : Row) → r ≡ getD rows (x .slot) (emptyRow Free) → Shaped r → x .greatest < 2 ^ 32
         → (t : Taken) (pool output : List ℕ) → Lands (rowStep false (x .act) content r (cellAt (b .pool) (x .slot))) (x .slot) (b .pool) (p .progress .used) (p .output) t pool output
+        → (lengths : List ℕ) → lengths ≡ listed (p .progress .count) (t .delivery) (p .lengths)
+        → (numbers : List ℕ) → numbers ≡ numbered (p .progress .count) (t .delivery) (x .origin) (p .numbers)
         → (progress : Progress) → progress ≡ progressed (p .progress) (t .delivery) (m .end) (x .origin)
-        → Going limit frame p₀ is₀ n
+        → Going limits frame p₀
         (record {
           board = record { state = record { present = x .present; greatest = x .greatest; rows = set rows (x .slot) (t .row) }; pool = pool };
           output = output;
+          lengths = lengths;
+          numbers = numbers;
           progress = progress;
         })
 
     turned-here : Turned v
-    turned-here rows er r ef z low t pool output ans progress ep =
+    turned-here rows er r ef z low t pool output ans lengths el numbers en progress ep =
         let re : r ≡ visited windowSize false b v = ef ∙ rw er in
         let shaped : Shaped (visited windowSize false b v) = subst Shaped re z in
         let a : Lands o (v .slot) (b .pool) (p .progress .used) (p .output) t pool output = rw re at ans in
         let came : progress ≡ progressed (p .progress) (deliveryOf (o .bundle)) (m .end) (v .origin) = ep ∙ rw (a .delivery) in
-        rw (er, a .row, a .pool, a .output, came) (goes-on shaped low)
+        let long : lengths ≡ listed (p .progress .count) (deliveryOf (o .bundle)) (p .lengths) = el ∙ rw (a .delivery) in
+        let told′ : numbers ≡ numbered (p .progress .count) (deliveryOf (o .bundle)) (v .origin) (p .numbers) = en ∙ rw (a .delivery) in
+        rw (er, a .row, a .pool, a .output, long, told′, came) (goes-on shaped low)
 
     pub turned : (x : Visit) → x ≡ v → Turned x
     turned x e = subst Turned (sym e) turned-here
 
 -- the loop begins
-pub begins : (limit : ℕ) (frame : List ℕ) (p : Run) → checked read frame (p .progress .next) ≡ Accepted → Sound windowSize (p .board) → p .board .state .greatest < 2 ^ 32 → p .progress .used ≤ length (p .output)
-    → Going limit frame p (messagesFrom draft02 frame (p .progress .next)) (length (p .output)) p
+pub begins : (limits : Limits) (frame : List ℕ) (p : Run) → Able (p .board .state) (p .board .pool) (p .output) (p .progress) → checked read frame (p .progress .next) ≡ Accepted → length (p .board .state .rows) ≡ windowSize → p .board .state .greatest < 2 ^ 32 → Going limits frame p p
 unfolding messagesFrom
-begins limit frame p accepted ready low used =
+begins limits frame p A accepted rows low =
     let place : ℕ = p .progress .next in
     let t = taken read sized frame place accepted in
     let here : scanAt read frame place ≡ row (from place (t .items)) = resume read sized frame place (t .items) (t .whole) (t .good-place) in
     let left′ : items (scanAt read frame place) ≡ from place (t .items) = items-row (from place (t .items)) here in
     let all : items (scanned read frame) ≡ t .items = items-row (t .items) (t .whole) in
-    record { same = rw (all, left′); here = rw left′ here; ready = ready; low = low; output = refl; used = used }
+    record { same = rw (all, left′); here = rw left′ here; ready = record { sound = A .sound; rows = rows; pool = A .pooled }; low = low; used = A .used; output = refl; lengths = refl; numbers = refl }
 
 -- the loop ends: no message is left, or the limits are reached
-stops : (limit : ℕ) (p : Run) (is : List Item) → roomy (p .progress) limit (length (p .output)) ≡ false → run windowSize false limit p is ≡ p
+stops : (limits : Limits) (p : Run) (is : List Item) → roomy (p .progress) limits (length (p .output)) ≡ false → run windowSize false limits p is ≡ p
 unfolding run
-stops limit p [] e = refl
-stops limit p (i ∷ is) e = rw e
+stops limits p [] e = refl
+stops limits p (i ∷ is) e = rw e
 
-pub ends : (limit : ℕ) (frame : List ℕ) (p₀ : Run) (is : List Item) (n : ℕ) (p : Run) → Going limit frame p₀ is n p
-    → (ltb (p .progress .next) (length frame) && roomy (p .progress) limit (length (p .output))) ≡ false → p ≡ run windowSize false limit p₀ is
-unfolding run
-ends limit frame p₀ is n p G test = sym (G .same ∙ go (bool (ltb (p .progress .next) (length frame))))
-  where
-    go : (ltb (p .progress .next) (length frame) ≡ true) ⊎ (ltb (p .progress .next) (length frame) ≡ false) → run windowSize false limit p (left frame p) ≡ p
-    go (inl e) = stops limit p (left frame p) (rw e at test)
-    go (inr e) = rw (Items.finished frame (p .progress .next) (left frame p) (G .here) (ltb-false (p .progress .next) (length frame) e))
+module _ {limits : Limits} {frame : List ℕ} {p₀ p : Run} (G : Going limits frame p₀ p) where
+  pub ends : goesOn limits frame p ≡ false → p ≡ runFrom limits p₀ frame
+  unfolding run
+  ends test = sym (G .same ∙ go (bool (ltb (p .progress .next) (length frame))))
+    where
+      go : (ltb (p .progress .next) (length frame) ≡ true) ⊎ (ltb (p .progress .next) (length frame) ≡ false) → run windowSize false limits p (left frame p) ≡ p
+      go (inl e) = stops limits p (left frame p) (rw e at test)
+      go (inr e) = rw (Items.finished frame (p .progress .next) (left frame p) (G .here) (ltb-false (p .progress .next) (length frame) e))
 
--- no message of an accepted frame is bad
-pub never-bad : {A : Type 0} (limit : ℕ) (frame : List ℕ) (p₀ : Run) (is : List Item) (n : ℕ) (p : Run) → Going limit frame p₀ is n p
-    → (ltb (p .progress .next) (length frame) && roomy (p .progress) limit (length (p .output))) ≡ true
-    → (q : Fault) → answer (p .progress .next) (read (drop (p .progress .next) frame)) ≡ Bad q → A
-never-bad limit frame p₀ is n p G test q told =
-    Items.never frame (p .progress .next) (left frame p) (G .here)
-    (ltb-true _ _ (both (ltb (p .progress .next) (length frame)) (roomy (p .progress) limit (length (p .output))) test .0)) q told
+  -- a message is left, and no message of an accepted frame is bad
+  pub some-left : goesOn limits frame p ≡ true → p .progress .next < length frame
+  some-left test = ltb-true (p .progress .next) (length frame) (both (ltb (p .progress .next) (length frame)) (roomy (p .progress) limits (length (p .output))) test .0)
+
+  pub never-bad : {A : Type 0} → goesOn limits frame p ≡ true → (q : Fault) → answer (p .progress .next) (read (drop (p .progress .next) frame)) ≡ Bad q → A
+  never-bad test q told = Items.never frame (p .progress .next) (left frame p) (G .here) (some-left test) q told

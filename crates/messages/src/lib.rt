@@ -13,25 +13,30 @@ use wire::Reading;
 ghost use mathlib.Core.Path.{_≡_};
 ghost use mathlib.Core.Bool.{true, false, _&&_};
 ghost use Prim.Native.Nat.{_+_, _*_, _≤_, _<_, _^_};
-ghost use lib.ListN.{length};
+ghost use lib.ListN.{length, set};
 ghost use lib.Dec.{ltb};
-ghost use Rattle.wire.specs.Layout.{read};
 ghost use Rattle.wire.specs.Frame.{checked, frameMax};
 ghost use Rattle.wire.specs.declared.Checked.the-variants as Frame;
 ghost use Rattle.window.specs.Window.{windowSize};
 ghost use Rattle.pieces.specs.Pieces.{bundleMax};
 ghost use Rattle.row.specs.Row.{soundRow};
 ghost use Rattle.reassembly.specs.Rules.{Answers};
-ghost use Rattle.rows.specs.State as Spec;
-ghost use Rattle.rows.specs.Message.{draft02, messagesFrom, cellAt};
+ghost use Rattle.rows.specs.Message.{draftOf, cellAt};
 ghost use Rattle.messages.specs.Run as Loop;
 
-// Bundles handed out, their octets, the next message's start, and the last bundle's origin.
+// Messages treated, bundles handed out, their octets, the next message's start, and the last bundle's origin.
 pub struct Progress {
+    pub treated: usize,
     pub count: usize,
     pub used: usize,
     pub next: usize,
     pub origin: Origin,
+}
+
+// The most messages and the most bundles.
+pub struct Limits {
+    pub messages: usize,
+    pub bundles: usize,
 }
 
 pub struct Ran {
@@ -85,17 +90,77 @@ fn cell_turn(
     row_turn(row, act, &mut pool[base..top], content, &mut output[used..])
 }
 
-// After a message, with the next one's start.
-fn progressed(p: Progress, t: Taken, next: usize, v: Visit) -> Progress
-    requires { ⌜ (p .count + 1 < 2 ^ 64) × (p .used + Loop.size (t .delivery) < 2 ^ 64) ⌝ }
-    ensures { λ r. ⌜ r ≡ Loop.progressed p (t .delivery) next (v .origin) ⌝ }
+// The transfer number, or one that no transfer has.
+pub fn origin_number(origin: Origin) -> u64
+    ensures { λ r. ⌜ r ≡ Loop.originNumber origin ⌝ }
 {
-    let delivery = t.delivery;
-    let origin = v.origin;
+    match origin {
+        Origin::Whole => 4294967296,
+        Origin::Transfer(number) => number as u64,
+    }
+}
+
+// An entry, where the list has it.
+fn put_length(lengths: &mut [u16], at: usize, n: u16)
+    ensures { λ _. ⌜ now (lengths .exit) ≡ set (now (lengths .entry)) at n ⌝ }
+{
+    if at < lengths.len() {
+        lengths[at] = n;
+    }
+}
+
+fn put_origin(numbers: &mut [u64], at: usize, n: u64)
+    ensures { λ _. ⌜ now (numbers .exit) ≡ set (now (numbers .entry)) at n ⌝ }
+{
+    if at < numbers.len() {
+        numbers[at] = n;
+    }
+}
+
+// The length and the number of a bundle in the lists.
+fn list_bundle(
+    lengths: &mut [u16],
+    numbers: &mut [u64],
+    at: usize,
+    delivery: Delivery,
+    origin: Origin,
+)
+    requires { ⌜ Loop.size delivery ≤ bundleMax ⌝ }
+    ensures { λ _. ⌜ (now (lengths .exit) ≡ Loop.listed at delivery (now (lengths .entry))) × (now (numbers .exit) ≡ Loop.numbered at delivery origin (now (numbers .entry))) ⌝ }
+{
+    match delivery {
+        Delivery::Nothing => {}
+        Delivery::Bundle(n) => {
+            put_length(lengths, at, n as u16);
+            put_origin(numbers, at, origin_number(origin));
+        }
+    }
+}
+
+// Before the first message, at a place.
+pub fn begun(place: usize) -> Progress
+    ensures { λ r. ⌜ r ≡ Loop.begun place ⌝ }
+{
+    Progress {
+        treated: 0,
+        count: 0,
+        used: 0,
+        next: place,
+        origin: Origin::Whole,
+    }
+}
+
+// After a message, with the next one's start.
+fn progressed(p: Progress, delivery: Delivery, next: usize, origin: Origin) -> Progress
+    requires { ⌜ (p .treated + 1 < 2 ^ 64) × (p .count + 1 < 2 ^ 64) × (p .used + Loop.size delivery < 2 ^ 64) ⌝ }
+    ensures { λ r. ⌜ r ≡ Loop.progressed p delivery next origin ⌝ }
+{
+    let treated = p.treated + 1;
     match delivery {
         Delivery::Nothing => {
             let origin = p.origin;
             Progress {
+                treated,
                 count: p.count,
                 used: p.used,
                 next,
@@ -103,6 +168,7 @@ fn progressed(p: Progress, t: Taken, next: usize, v: Visit) -> Progress
             }
         }
         Delivery::Bundle(n) => Progress {
+            treated,
             count: p.count + 1,
             used: p.used + n,
             next,
@@ -111,40 +177,55 @@ fn progressed(p: Progress, t: Taken, next: usize, v: Visit) -> Progress
     }
 }
 
-// Whether a further message is treated, in a frame and an output of these lengths.
-fn more(p: Progress, limit: usize, frame: usize, output: usize) -> bool
+// Whether the limits, and the room in an output of this length, allow a further message.
+pub fn roomy(p: Progress, limits: Limits, output: usize) -> bool
     requires { ⌜ p .used ≤ output ⌝ }
-    ensures { λ r. ⌜ r ≡ (ltb (p .next) frame && Loop.roomy p limit output) ⌝ }
+    ensures { λ r. ⌜ r ≡ Loop.roomy p limits output ⌝ }
 {
-    (p.next < frame) & ((p.count < limit) & (BUNDLE_MAX <= output - p.used))
+    (p.treated < limits.messages) & ((p.count < limits.bundles) & (BUNDLE_MAX <= output - p.used))
 }
 
-// Goes on from a progress with the messages of a frame, until `limit` bundles are out or the output lacks room for a further one.
+// Whether a further message of a frame of this length is treated.
+fn more(p: Progress, limits: Limits, frame: usize, output: usize) -> bool
+    requires { ⌜ p .used ≤ output ⌝ }
+    ensures { λ r. ⌜ r ≡ (ltb (p .next) frame && Loop.roomy p limits output) ⌝ }
+{
+    (p.next < frame) & roomy(p, limits, output)
+}
+
+// Goes on from a progress with the messages of a frame, until a limit is reached or the output lacks room for a further bundle.
 pub fn run(
     state: State,
     pool: &mut [u8],
     frame: &[u8],
     from: Progress,
     output: &mut [u8],
-    limit: usize,
+    lengths: &mut [u16],
+    numbers: &mut [u64],
+    limits: Limits,
 ) -> Ran
-    requires { ⌜ (Spec.sound state ≡ true) × (length (now pool) ≡ windowSize * bundleMax) × (length (now frame) ≤ frameMax) × (checked read (now frame) (from .next) ≡ Frame.Accepted) × (from .used ≤ length (now output)) ⌝ }
-    ensures { λ r. ⌜ Loop.ran r (now (pool .exit)) (now (output .exit)) ≡ Loop.run windowSize false limit (Loop.going (record { state = state; pool = now (pool .entry) }) (now (output .entry)) from) (messagesFrom draft02 (now (frame .entry)) (from .next)) ⌝ }
+    requires { ⌜
+        (Loop.Able state (now pool) (now output) from)
+        × (length (now frame) ≤ frameMax)
+        × (checked (draftOf state .read) (now frame) (from .next) ≡ Frame.Accepted) ⌝ }
+    ensures { λ r. ⌜
+        (Loop.going (r .state) (now (pool .exit)) (now (output .exit)) (now (lengths .exit)) (now (numbers .exit)) (r .progress)
+        ≡ Loop.runFrom limits (Loop.going state (now (pool .entry)) (now (output .entry)) (now (lengths .entry)) (now (numbers .entry)) from) (now (frame .entry)))
+        × (Loop.Able (r .state) (now (pool .exit)) (now (output .exit)) (r .progress)) ⌝ }
 {
     let mut present = state.present;
     let mut greatest = state.greatest;
     let mut rows = state.rows;
     let mut progress = from;
-    while more(progress, limit, frame.len(), output.len()) {
-        let r = wire::read_message(frame, progress.next);
-        let Reading::Good(m) = r else {
+    while more(progress, limits, frame.len(), output.len()) {
+        let Reading::Good(m) = wire::read_message(frame, progress.next) else {
             break;
         };
         let kind = m.kind;
         let start = m.start;
         let end = m.end;
         if let Kind::Skipped = kind {
-            progress.next = end;
+            progress = progressed(progress, Delivery::Nothing, end, Origin::Whole);
             continue;
         }
         let content = &frame[start..end];
@@ -161,14 +242,15 @@ pub fn run(
         let t = cell_turn(rows[slot], v, pool, content, output, progress.used);
         let next = t.row;
         rows[slot] = next;
-        progress = progressed(progress, t, end, v);
+        let delivery = t.delivery;
+        let origin = v.origin;
+        list_bundle(lengths, numbers, progress.count, delivery, origin);
+        progress = progressed(progress, delivery, end, origin);
     }
-    Ran {
-        progress,
-        state: State {
-            present,
-            greatest,
-            rows,
-        },
-    }
+    let state = State {
+        present,
+        greatest,
+        rows,
+    };
+    Ran { progress, state }
 }

@@ -5,9 +5,11 @@
 --     Ready      every message and every call leaves a sound state sound
 --     Calls      a receiving call by cases
 --     Reserved   reserved flag bits are ignored
+--     Weight     no octet is handed out twice
 pub mod Limit
 pub mod Refusals
 pub mod Pool
 pub mod Ready
 pub mod Calls
 pub mod Reserved
+pub mod Weight

@@ -77,7 +77,7 @@ module _ (w : ℕ) (win : Window w) where
         pool = length-put-cell w (b .pool) (R .pool) k k< (rule r cell .cell) (K .cell r cell (length-cell w (b .pool) (R .pool) k k<));
       }
 
-  moved-ready : (b : Board) (t d : ℕ) → Ready w b → Ready w (moved w b t d)
+  pub moved-ready : (b : Board) (t d : ℕ) → Ready w b → Ready w (moved w b t d)
   unfolding moved State.sound
   moved-ready b t d R =
       let s = both (b .state .present || eqb (b .state .greatest) 0) (soundRows (b .state .present) (b .state .rows)) (R .sound) .1 in

@@ -1,5 +1,5 @@
 -- Refused calls change nothing, refusals come in document 01's order, and what a call that is not refused has.
-use mathlib.Core.Bool.{Bool, cond, true, false, not, _||_}
+use mathlib.Core.Bool.{Bool, true, false, not, _||_}
 use mathlib.Core.List.{List, [], _∷_}
 use mathlib.Core.Logic.{_⊎_, inl, inr}
 use mathlib.Core.Option.{Option, none, some}
@@ -10,6 +10,7 @@ use lib.Dec.{eqb, ltb}
 use lib.ListN.{length}
 use borrow.Author.Tests.{eqb-true, eqb-false, ltb-false, not-false}
 use Rattle.octets.proofs.Flags.{bool, neither}
+use Rattle.octets.proofs.Cases.{first}
 use Rattle.wire.specs.Frame.{checked, frameMax}
 use Rattle.wire.specs.Message.{faultNumber}
 use Rattle.wire.specs.declared.Checked.{Checked}
@@ -17,7 +18,7 @@ use Rattle.wire.specs.declared.Checked.the-variants as Frame
 use Rattle.wire.specs.declared.Fault.the-variants.{ShortHeader, PastFrame, PastMessage, BadContent}
 use Rattle.pieces.specs.Pieces.{bundleMax}
 use Rattle.rows.specs.Message.{Draft, Board, messagesFrom}
-use Rattle.receiver.specs.Receive.{refusalNumber, frameRefusal, replied, refusal, treat, receive}
+use Rattle.receiver.specs.Receive.{refusalNumber, frameRefusal, unfit, replied, refusal, treat, receive}
 use Rattle.receiver.specs.Steps.{admission}
 use Rattle.rows.specs.State.{sound}
 use Rattle.receiver.specs.declared.Admission.the-variants.{Admitted, Denied}
@@ -40,6 +41,30 @@ unfolding admission
 admitted none e = refl
 admitted (some r) e = absurd (let z : _≡_ {A = ℕ} 0 1 = cc in omega arith)
 
+-- what a frame that is not refused has
+pub record Fit (D : Draft) (frame : List ℕ) (place : ℕ) : Type 0 where
+  pub some : 0 < length frame
+  pub small : length frame ≤ frameMax
+  pub accepted : checked (D .read) frame place ≡ Frame.Accepted
+
+accepts : (c : Checked) → frameRefusal c ≡ none → c ≡ Frame.Accepted
+unfolding frameRefusal
+accepts Frame.Accepted e = refl
+accepts (Frame.Malformed f p) e = absurd (let z : _≡_ {A = ℕ} 0 1 = cc in omega arith)
+accepts Frame.Misplaced e = absurd (let z : _≡_ {A = ℕ} 0 1 = cc in omega arith)
+
+never : {A : Type 0} {q : Refusal} → some q ≡ none → A
+never e = absurd (let z : _≡_ {A = ℕ} 0 1 = cc in omega arith)
+
+pub fit : (D : Draft) (frame : List ℕ) (place : ℕ) → unfit D frame place ≡ none → Fit D frame place
+fit D frame place e = go (bool (eqb (length frame) 0 || ltb frameMax (length frame)))
+  where
+    go : ((eqb (length frame) 0 || ltb frameMax (length frame)) ≡ true) ⊎ ((eqb (length frame) 0 || ltb frameMax (length frame)) ≡ false) → Fit D frame place
+    go (inl z) = never (rw z at e)
+    go (inr z) =
+        let n = neither (eqb (length frame) 0) (ltb frameMax (length frame)) z in
+        record { some = omega (arith, eqb-false (length frame) 0 (n .0)); small = ltb-false frameMax (length frame) (n .1); accepted = accepts (checked (D .read) frame place) (rw z at e) }
+
 module _ (D : Draft) (w : ℕ) (b : Board) (frame : List ℕ) (place : ℕ) (output : List ℕ) where
   -- a call that is refused gives back state, pool and output as they were
   pub refused : (q : Refusal) → refusal D w b frame place output ≡ some q → receive D w b frame place output ≡ record { answer = Refused q; board = b; output = output }
@@ -55,39 +80,23 @@ module _ (D : Draft) (w : ℕ) (b : Board) (frame : List ℕ) (place : ℕ) (out
     pub state : sound (b .state) ≡ true
     pub pool : length (b .pool) ≡ w * bundleMax
     pub room : bundleMax ≤ length output
-    pub some : 0 < length frame
-    pub small : length frame ≤ frameMax
-    pub accepted : checked (D .read) frame place ≡ Frame.Accepted
-
-  accepts : (c : Checked) → frameRefusal c ≡ none → c ≡ Frame.Accepted
-  unfolding frameRefusal
-  accepts Frame.Accepted e = refl
-  accepts (Frame.Malformed f p) e = absurd (let z : _≡_ {A = ℕ} 0 1 = cc in omega arith)
-  accepts Frame.Misplaced e = absurd (let z : _≡_ {A = ℕ} 0 1 = cc in omega arith)
+    pub frame-fit : Fit D frame place
 
   pub admits : refusal D w b frame place output ≡ none → Admits
   unfolding refusal
-  admits e = go (bool (not (sound (b .state)))) (bool (not (eqb (length (b .pool)) (w * bundleMax)) || ltb (length output) bundleMax)) (bool (eqb (length frame) 0 || ltb frameMax (length frame)))
+  admits e = go (bool (not (sound (b .state)))) (bool (not (eqb (length (b .pool)) (w * bundleMax)) || ltb (length output) bundleMax))
     where
-      never : {q : Refusal} → some q ≡ none → Admits
-      never e = absurd (let z : _≡_ {A = ℕ} 0 1 = cc in omega arith)
-
       go : (not (sound (b .state)) ≡ true) ⊎ (not (sound (b .state)) ≡ false)
-          → ((not (eqb (length (b .pool)) (w * bundleMax)) || ltb (length output) bundleMax) ≡ true) ⊎ ((not (eqb (length (b .pool)) (w * bundleMax)) || ltb (length output) bundleMax) ≡ false)
-          → ((eqb (length frame) 0 || ltb frameMax (length frame)) ≡ true) ⊎ ((eqb (length frame) 0 || ltb frameMax (length frame)) ≡ false) → Admits
-      go (inl x) y z = never (rw x at e)
-      go (inr x) (inl y) z = never (rw (x, y) at e)
-      go (inr x) (inr y) (inl z) = never (rw (x, y, z) at e)
-      go (inr x) (inr y) (inr z) =
+          → ((not (eqb (length (b .pool)) (w * bundleMax)) || ltb (length output) bundleMax) ≡ true) ⊎ ((not (eqb (length (b .pool)) (w * bundleMax)) || ltb (length output) bundleMax) ≡ false) → Admits
+      go (inl x) y = never (rw x at e)
+      go (inr x) (inl y) = never (rw (x, y) at e)
+      go (inr x) (inr y) =
           let p = neither (not (eqb (length (b .pool)) (w * bundleMax))) (ltb (length output) bundleMax) y in
-          let f = neither (eqb (length frame) 0) (ltb frameMax (length frame)) z in
           record {
             state = not-false (sound (b .state)) x;
             pool = eqb-true (length (b .pool)) (w * bundleMax) (not-false (eqb (length (b .pool)) (w * bundleMax)) (p .0));
             room = ltb-false (length output) bundleMax (p .1);
-            some = omega (arith, eqb-false (length frame) 0 (f .0));
-            small = ltb-false frameMax (length frame) (f .1);
-            accepted = accepts (checked (D .read) frame place) (rw (x, y, z) at e);
+            frame-fit = fit D frame place (rw (x, y) at e);
           }
 
 -- ---- the order of the refusals
@@ -106,14 +115,20 @@ isMisplaced Frame.Misplaced = true
 abbrev frameCases : Checked → List (ℕ × Bool)
 frameCases c = (4, isFault 4 c) ∷ (6, isFault 6 c) ∷ (7, isFault 7 c) ∷ (8, isFault 8 c) ∷ (9, isMisplaced c) ∷ []
 
--- the first number whose case holds, 0 for none
-unfoldable pub first : List (ℕ × Bool) → ℕ
-first [] = 0
-first (x ∷ xs) = cond (x .1) (x .0) (first xs)
-
 unfoldable pub numberOf : Option Refusal → ℕ
 numberOf none = 0
 numberOf (some q) = refusalNumber q
+
+-- 0 is no refusal's number
+pub number-some : (q : Refusal) → eqb (refusalNumber q) 0 ≡ false
+number-some Unsound = refl
+number-some BufferSize = refl
+number-some FrameSize = refl
+number-some (Malformed ShortHeader at) = refl
+number-some (Malformed PastFrame at) = refl
+number-some (Malformed PastMessage at) = refl
+number-some (Malformed BadContent at) = refl
+number-some Misplaced = refl
 
 -- 5 is never given
 pub never-five : (q : Refusal) → refusalNumber q ≡ 5 → ⊥

@@ -50,6 +50,10 @@ frameRefusal Frame.Accepted = none
 frameRefusal (Frame.Malformed fault at) = some (Malformed fault at)
 frameRefusal Frame.Misplaced = some Misplaced
 
+-- refusals 3 to 9: what a frame and a place alone are refused for
+abbrev pub unfit : Draft → List ℕ → ℕ → Option Refusal
+unfit D frame place = cond (eqb (length frame) 0 || ltb frameMax (length frame)) (some FrameSize) (frameRefusal (checked (D .read) frame place))
+
 -- a refused call changes nothing
 unfoldable pub replied : Option Refusal → Board → List ℕ → Reply → Reply
 replied none b output reply = reply
@@ -66,8 +70,7 @@ module _ (D : Draft) (w : ℕ) where
   refusal b frame place output =
       cond (not (sound (b .state))) (some Unsound)
       (cond (not (eqb (length (b .pool)) (w * bundleMax)) || ltb (length output) bundleMax) (some BufferSize)
-      (cond (eqb (length frame) 0 || ltb frameMax (length frame)) (some FrameSize)
-      (frameRefusal (checked (D .read) frame place))))
+      (unfit D frame place))
 
   -- the messages up to the first handed-out bundle
   unfoldable pub treat : Board → List Item → List ℕ → Reply

@@ -1,23 +1,23 @@
 // The receiver: start and the receiving call (document 01, "Receiving call").
+use messages::Limits;
 use messages::Progress;
 use pieces::BUNDLE_MAX;
 use row::Phase;
 pub use rows::Origin;
 pub use rows::State;
 use wire::Checked;
+use wire::FRAME_MAX;
 use wire::Fault;
 ghost use mathlib.Core.Path.{_≡_};
 ghost use Rattle.window.specs.Window.{windowSize};
 ghost use Rattle.rows.specs.State as Spec;
-ghost use Rattle.rows.specs.Message.{draft02};
+ghost use Rattle.rows.specs.State.{windowOf};
+ghost use Rattle.rows.specs.Message.{draft02, draftOf};
 ghost use Rattle.receiver.specs.Receive as Call;
 ghost use Rattle.receiver.specs.Steps as Steps;
 
-// A part of the pool for each row.
-const POOL: usize = 65536;
-
-// The most octets of a frame.
-const FRAME_MAX: usize = 2048;
+// The octets of a pool: a part of 4,096 for each row.
+pub const POOL: usize = 65536;
 
 // Refusals 1, 2, 3, 4 to 8 with the first bad message's start, and 9.
 pub enum Refusal {
@@ -71,18 +71,25 @@ fn admitted(c: Checked) -> Admission
     }
 }
 
+// Refusals 3 to 9.
+pub fn admit_frame(frame: &[u8], place: usize) -> Admission
+    ensures { λ r. ⌜ r ≡ Steps.admission (Call.unfit draft02 (now (frame .entry)) place) ⌝ }
+{
+    if (frame.len() == 0) | (FRAME_MAX < frame.len()) {
+        return Admission::Denied(Refusal::FrameSize);
+    }
+    admitted(wire::check_frame(frame, place))
+}
+
 // The first refusal that applies.
 fn admit(state: State, pool: &[u8], frame: &[u8], place: usize, output: &[u8]) -> Admission
-    ensures { λ r. ⌜ r ≡ Steps.admission (Call.refusal draft02 windowSize (record { state = state; pool = now (pool .entry) }) (now (frame .entry)) place (now (output .entry))) ⌝ }
+    ensures { λ r. ⌜ r ≡ Steps.admission (Call.refusal (draftOf state) (windowOf state) (record { state = state; pool = now (pool .entry) }) (now (frame .entry)) place (now (output .entry))) ⌝ }
 {
     if rows::is_sound(state) {
         if (pool.len() != POOL) | (output.len() < BUNDLE_MAX) {
             return Admission::Denied(Refusal::BufferSize);
         }
-        if (frame.len() == 0) | (FRAME_MAX < frame.len()) {
-            return Admission::Denied(Refusal::FrameSize);
-        }
-        return admitted(wire::check_frame(frame, place));
+        return admit_frame(frame, place);
     }
     Admission::Denied(Refusal::Unsound)
 }
@@ -122,7 +129,7 @@ pub fn receive(
     place: usize,
     output: &mut [u8],
 ) -> Received
-    ensures { λ r. ⌜ Call.reply r (now (pool .exit)) (now (output .exit)) ≡ Call.receive draft02 windowSize (record { state = state; pool = now (pool .entry) }) (now (frame .entry)) place (now (output .entry)) ⌝ }
+    ensures { λ r. ⌜ Call.reply r (now (pool .exit)) (now (output .exit)) ≡ Call.receive (draftOf state) (windowOf state) (record { state = state; pool = now (pool .entry) }) (now (frame .entry)) place (now (output .entry)) ⌝ }
 {
     let a = admit(state, &pool[..], frame, place, &output[..]);
     if let Admission::Denied(refusal) = a {
@@ -131,13 +138,22 @@ pub fn receive(
             state,
         };
     }
-    let first = Progress {
-        count: 0,
-        used: 0,
-        next: place,
-        origin: Origin::Whole,
+    let limits = Limits {
+        messages: FRAME_MAX,
+        bundles: 1,
     };
-    let r = messages::run(state, pool, frame, first, output, 1);
+    let mut lengths = [0u16; 1];
+    let mut numbers = [0u64; 1];
+    let r = messages::run(
+        state,
+        pool,
+        frame,
+        messages::begun(place),
+        output,
+        &mut lengths,
+        &mut numbers,
+        limits,
+    );
     let progress = r.progress;
     let next = r.state;
     Received {

@@ -1,173 +1,159 @@
 -- `messages::run` meets its contract. The invariant `Going`: the run from the beginning over all messages is the run from here over those left.
-use mathlib.Core.Bool.{true, false, _&&_}
+use mathlib.Core.Bool.{false}
 use mathlib.Core.List.{List, []}
 use mathlib.Core.Logic.{⊎-elim}
-use mathlib.Core.Path.{subst, _≡_, refl, sym, ap, _∙_}
+use mathlib.Core.Path.{_≡_, refl, sym, ap, _∙_}
 use Prim.Native.Nat.{_+_, _≤_, ℕ, _-_, _^_, _<_}
 use native.Mathlib.Omega.{arith}
-use lib.Dec.{ltb}
-use lib.ListN.{getD, take, drop, set, length}
+use lib.ListN.{getD, set, length}
 use borrow.Author.Needs.{needs}
-use borrow.Author.Tests.{ltb-true}
-use Rattle.octets.proofs.Flags.{both}
-use Rattle.wire.specs.Frame.{Item}
-use Rattle.wire.specs.Layout.{message, fitting, read}
-use Rattle.wire.specs.Message.{answer}
-use Rattle.wire.specs.declared.Reading.the-variants.{Good}
-use Rattle.wire.specs.declared.Span.{Span}
-use Rattle.wire.proofs.Spans.{Located}
+use Rattle.wire.specs.Layout.{read}
 use Rattle.window.specs.Window.{windowSize, sixteen}
 use Rattle.pieces.specs.Pieces.{bundleMax}
-use Rattle.row.specs.Row.{soundRow, emptyRow}
-use Rattle.reassembly.specs.declared.Delivery.{Delivery}
-use Rattle.reassembly.specs.declared.Delivery.the-variants.{Nothing}
+use Rattle.row.specs.Row.{emptyRow}
 use Rattle.row.specs.declared.Phase.the-variants.{Free}
 use Rattle.row.specs.declared.Row.{Row}
-use Rattle.reassembly.specs.declared.Taken.{Taken}
 use Rattle.row.proofs.Shaped.{Shaped}
-use Rattle.rows.specs.Message.{draft02, cellAt, messagesFrom}
-use Rattle.messages.specs.Run.{rowStep, Lands, progressed, size as delivery-size, admits, Run, roomy, going}
-use Rattle.rows.specs.Visit.{visitOf}
+use Rattle.reassembly.specs.declared.Delivery.{Delivery}
+use Rattle.reassembly.specs.declared.Delivery.the-variants.{Nothing}
 use Rattle.rows.specs.declared.Origin.{Origin}
 use Rattle.rows.specs.declared.Origin.the-variants.{Whole}
-use Rattle.messages.specs.declared.Progress.{Progress}
 use Rattle.rows.specs.declared.Visit.{Visit}
-use Rattle.messages.proofs.Looping.{progressed-next, begins, ends, never-bad, passed, turned, at<, count<, room, place, slot<, fits, admit, found-sound, bundle-fits, size-fits, Going}
 use Rattle.rows.proofs.Rows.{length-mapped, getD-any}
+use Rattle.messages.specs.Run.{progressed, size, Run, going}
+use Rattle.messages.specs.declared.Progress.{Progress}
+use Rattle.messages.proofs.Looping.{progressed-next, begins, ends, some-left, never-bad, passed, turned, v, at<, treated<, count<, room, place, slot<, fits, admit, found-sound, handed-fits, Going, Turn}
 use Rattle.messages.proofs.Visits.{visited, rowsFor, rows-for-full, cleared, cleared-some, cleared-none, opened, opened-some, opened-none}
 use Rattle.messages.proofs.run.Statement.{statement}
 use Rattle.messages.proofs.run.Tie as tie
 
 abbrev Inv-loop : tie.InvT-loop
-Inv-loop pool₀ frame output₀ limit present₀ greatest₀ rows₀ progress₀ pool output present greatest rows progress =
-    Going limit frame (going (record { state = record { present = present₀; greatest = greatest₀; rows = rows₀ }; pool = pool₀ }) output₀ progress₀) (messagesFrom draft02 frame (progress₀ .next)) (length output₀)
-    (record { board = record { state = record { present = present; greatest = greatest; rows = rows }; pool = pool }; output = output; progress = progress })
+Inv-loop pool₀ frame output₀ lengths₀ numbers₀ limits present₀ greatest₀ rows₀ progress₀ pool output lengths numbers present greatest rows progress =
+    Going limits frame (going (record { present = present₀; greatest = greatest₀; rows = rows₀ }) pool₀ output₀ lengths₀ numbers₀ progress₀)
+    (going (record { present = present; greatest = greatest; rows = rows }) pool output lengths numbers progress)
 
 abbrev μ-loop : tie.MeasureT-loop
-μ-loop pool₀ frame output₀ limit present₀ greatest₀ rows₀ progress₀ pool output present greatest rows progress = length frame - progress .next
+μ-loop pool₀ frame output₀ lengths₀ numbers₀ limits present₀ greatest₀ rows₀ progress₀ pool output lengths numbers present greatest rows progress = length frame - progress .next
 
-full : (c : tie.Start Inv-loop μ-loop) → length (c .args .state .rows) ≡ 16
-full c = search (needs, length-mapped)
+-- ---- the beginning
 
-low : (c : tie.Start Inv-loop μ-loop) → c .args .state .greatest < 2 ^ 32
-low c = search needs
-
-limits : (c : tie.Start Inv-loop μ-loop) → (c .args .limit < 2 ^ 64) × (length (c .args .output .now) < 2 ^ 64)
-limits c = search needs
-
--- Once a message has been read: the run so far, what the test of the loop and the reading say, and what follows for the turn.
-module _ (c : tie.After-known-told Inv-loop μ-loop) where
-  abbrev now : Run
-  now =
-      let l = c .before .before .before .before .before .before .loop in
-      record { board = record { state = record { present = l .present; greatest = l .greatest; rows = l .rows }; pool = l .pool }; output = l .output; progress = l .progress }
-
+module _ (c : tie.Start Inv-loop μ-loop) where
   abbrev first : Run
-  first = let a = c .before .before .before .before .before .before .before .before .before .before .before .args in going (record { state = a .state; pool = a .pool .now }) (a .output .now) (a .from)
+  first = let a = c .args in going (a .state) (a .pool .now) (a .output .now) (a .lengths .now) (a .numbers .now) (a .from)
+
+  full : length (c .args .state .rows) ≡ 16
+  full = search (needs, length-mapped)
+
+  low : c .args .state .greatest < 2 ^ 32
+  low = search needs
+
+  limits : (c .args .limits .messages < 2 ^ 64) × (c .args .limits .bundles < 2 ^ 64) × (length (c .args .output .now) < 2 ^ 64)
+  limits = search needs
+
+-- ---- a turn: where it stands, and the message that is read
+
+module _ (c : tie.At-loop Inv-loop μ-loop) where
+  abbrev start : tie.Start Inv-loop μ-loop
+  start = c .before .before .before .before .before .before .before
+
+  abbrev now : Run
+  now = let l = c .loop in going (record { present = l .present; greatest = l .greatest; rows = l .rows }) (l .pool) (l .output) (l .lengths) (l .numbers) (l .progress)
 
   abbrev frame : List ℕ
-  frame = c .before .before .before .before .before .before .before .before .before .before .before .args .frame .now
+  frame = start .args .frame .now
 
-  abbrev items : List Item
-  items = messagesFrom draft02 frame (c .before .before .before .before .before .before .before .before .before .before .before .args .from .next)
+module _ (c : tie.After-known-told Inv-loop μ-loop) where
+  abbrev here : tie.At-loop Inv-loop μ-loop
+  here = c .before .before .before .before .before .before
 
-  abbrev size : ℕ
-  size = length (c .before .before .before .before .before .before .before .before .before .before .before .args .output .now)
+  abbrev turn : Turn (start here .args .limits) (frame here) (first (start here)) (now here)
+  turn = record {
+    going = here .loop .inv;
+    test = sym (c .before .before .before .before .before .more .ensures) ∙ c .before .before .before .before .if1 .taken;
+    span = c .before .m .given .0 .0;
+    told = sym (c .before .before .before .read-message .ensures) ∙ c .before .m .given .1;
+  }
 
-  abbrev span : Span
-  span = c .before .r .given .0 .0
+  small : length (frame here) ≤ bundleMax
+  small = omega (arith, start here .pre .1)
 
-  test : (ltb (now .progress .next) (length frame) && roomy (now .progress) (c .before .before .before .before .before .before .before .before .before .before .before .args .limit) (length (now .output))) ≡ true
-  test = sym (c .before .before .before .before .before .more .ensures) ∙ c .before .before .before .before .if1 .taken
+  counted : now here .progress .treated + 1 < 2 ^ 64
+  counted = omega (arith, treated< turn, limits (start here) .0)
 
-  told : answer (now .progress .next) (read (drop (now .progress .next) frame)) ≡ Good span
-  told = sym (c .before .before .before .read-message .ensures) ∙ c .before .r .given .1
+  delivered : (d : Delivery) → size d ≤ bundleMax → (now here .progress .treated + 1 < 2 ^ 64) × (now here .progress .count + 1 < 2 ^ 64) × (now here .progress .used + size d < 2 ^ 64)
+  delivered d s = (counted, omega (arith, count< turn, limits (start here) .1), omega (arith, s, room turn, here .loop .inv .output, limits (start here) .2))
 
-  located : Located frame (now .progress .next) span
-  located = place (c .before .before .before .before .before .before .before .before .before .before .before .args .limit) frame first items size now (c .before .before .before .before .before .before .loop .inv) test span told
-
-  abbrev content : List ℕ
-  content = take (span .end - span .start) (drop (span .start) frame)
-
-  fitted : fitting (span .kind) (length content) ≡ true
-  fitted = fits (c .before .before .before .before .before .before .before .before .before .before .before .args .limit) frame first items size now (c .before .before .before .before .before .before .loop .inv) test span told
-
-  small : length frame ≤ bundleMax
-  small = omega (arith, c .before .before .before .before .before .before .before .before .before .before .before .pre .2)
-
-  abbrev goal : Visit
-  goal = visitOf windowSize (now .board .state .present) (now .board .state .greatest) (message (span .kind) content)
-
-  slot-below : (x : Visit) → x ≡ goal → x .slot < 16
-  slot-below x e = rw e (slot< (c .before .before .before .before .before .before .before .before .before .before .before .args .limit) frame first items size now (c .before .before .before .before .before .before .loop .inv) test span told)
-
-  admitted : (x : Visit) → x ≡ goal → admits (x .act) (length content) ≡ true
-  admitted x e = rw e (admit (c .before .before .before .before .before .before .before .before .before .before .before .args .limit) frame first items size now (c .before .before .before .before .before .before .loop .inv) test span told small)
-
-  row-is : (x : Visit) → x ≡ goal → (rows : List Row) → rows ≡ rowsFor windowSize false (now .board) x
-      → (r : Row) → r ≡ getD rows (x .slot) (emptyRow Free) → r ≡ visited windowSize false (now .board) goal
-  row-is x ex rows er r ef = ef ∙ rw (er, ex)
-
-  row-sound : (r : Row) → r ≡ visited windowSize false (now .board) goal → soundRow r ≡ true
-  row-sound r e = rw e (found-sound (c .before .before .before .before .before .before .before .before .before .before .before .args .limit) frame first items size now (c .before .before .before .before .before .before .loop .inv) test span told)
-
-  delivered : (x : Visit) → x ≡ goal → (r : Row) → r ≡ visited windowSize false (now .board) goal → Shaped r → (t : Taken) (pool output : List ℕ)
-      → Lands (rowStep false (x .act) content r (cellAt (now .board .pool) (x .slot))) (x .slot) (now .board .pool) (now .progress .used) (now .output) t pool output
-      → (now .progress .count + 1 < 2 ^ 64) × (now .progress .used + delivery-size (t .delivery) < 2 ^ 64)
-  delivered x ex r er z t pool output ans =
-      let o = rowStep false (x .act) content r (cellAt (now .board .pool) (x .slot)) in
-      let fits = size-fits (o .bundle) bundleMax (λ y q. bundle-fits (c .before .before .before .before .before .before .before .before .before .before .before .args .limit) frame first items size now (c .before .before .before .before .before .before .loop .inv) test span told small (subst Shaped er z) y (rw (er, ex) at q)) in
-      let s : delivery-size (t .delivery) ≤ bundleMax = rw (ans .delivery) fits in
-      (omega (arith, count< (c .before .before .before .before .before .before .before .before .before .before .before .args .limit) frame first items size now (c .before .before .before .before .before .before .loop .inv) test span told, limits (c .before .before .before .before .before .before .before .before .before .before .before) .0), omega (arith, s, room (c .before .before .before .before .before .before .before .before .before .before .before .args .limit) frame first items size now (c .before .before .before .before .before .before .loop .inv) test span told, c .before .before .before .before .before .before .loop .inv .output, limits (c .before .before .before .before .before .before .before .before .before .before .before) .1))
-
-  later : (q : Progress) (d : Delivery) (origin : Origin) → q ≡ progressed (now .progress) d (span .end) origin → length frame - q .next < length frame - now .progress .next
+  later : (q : Progress) (d : Delivery) (origin : Origin) → q ≡ progressed (now here .progress) d (turn .span .end) origin → length (frame here) - q .next < length (frame here) - now here .progress .next
   later q d origin e =
-      let n : q .next ≡ span .end = ap (λ (y : Progress). y .next) e ∙ progressed-next (now .progress) d (span .end) origin in
-      rw n (omega (arith, located .later, at< (c .before .before .before .before .before .before .before .before .before .before .before .args .limit) frame first items size now (c .before .before .before .before .before .before .loop .inv) test span told))
+      let n : q .next ≡ turn .span .end = ap (λ (y : Progress). y .next) e ∙ progressed-next (now here .progress) d (turn .span .end) origin in
+      rw n (omega (arith, place turn .later, at< turn))
 
--- the rows that the message finds
-joined2 : (c : tie.Joined2 Inv-loop μ-loop) → c .if2 .rows ≡ cleared windowSize (c .before .before .before .before .before .before .before .before .before .before .before .loop .greatest) (c .before .before .visit-of .result .entered) (c .before .before .before .before .before .before .before .before .before .before .before .loop .rows)
+-- ---- the rows that the message finds, and its own
+
+module _ (c : tie.After-visit-of Inv-loop μ-loop) where
+  abbrev known : tie.After-known-told Inv-loop μ-loop
+  known = c .before .before .before
+
+  slot-below : c .visit-of .result .slot < 16
+  slot-below = rw (c .visit-of .ensures) (slot< (turn known))
+
+joined2 : (c : tie.Joined2 Inv-loop μ-loop) → let x = c .before .before in c .if2 .rows ≡ cleared windowSize (here (known x) .loop .greatest) (x .visit-of .result .entered) (here (known x) .loop .rows)
 joined2 c =
-    let l = c .before .before .before .before .before .before .before .before .before .before .before .loop in
+    let l = here (known (c .before .before)) .loop in
     let d = c .before .before .visit-of .result .entered in
     ⊎-elim (λ w. w .2 ∙ w .1 .ensures ∙ cleared-some windowSize (l .greatest) d (l .rows) (w .0 .taken)) (λ w. w .1 ∙ cleared-none windowSize (l .greatest) d (l .rows) (w .0 .left)) (c .if2 .came)
 
-joined3 : (c : tie.Joined3 Inv-loop μ-loop) → c .if3 .rows ≡ rowsFor windowSize false (now (c .before .before .before .before .before .before .before) .board) (c .before .before .before .before .visit-of .result)
-joined3 c =
-    let v = c .before .before .before .before .visit-of .result in
-    let rows = c .before .before .if2 .rows in
-    ⊎-elim (λ w. w .2 ∙ ap (set rows (v .slot)) (w .1 .ensures) ∙ opened-some (v .slot) (v .entered) rows (w .0 .taken)) (λ w. w .1 ∙ opened-none (v .slot) (v .entered) rows (w .0 .left)) (c .if3 .came)
-    ∙ ap (opened (v .slot) (v .entered)) (joined2 (c .before .before))
+module _ (c : tie.Joined3 Inv-loop μ-loop) where
+  abbrev seen : tie.After-visit-of Inv-loop μ-loop
+  seen = c .before .before .before .before
 
-abbrev row : tie.After-cell-turn-arg Inv-loop μ-loop → Row
-row c = getD (c .before .if3 .rows) (c .before .before .before .before .before .visit-of .result .slot) (record { phase = Free; known = false; last = 0; held = 0; indexes = []; lengths = [] })
+  abbrev goal : Visit
+  goal = seen .visit-of .result
 
-row-found : (c : tie.After-cell-turn-arg Inv-loop μ-loop) → row c ≡ getD (c .before .if3 .rows) (c .before .before .before .before .before .visit-of .result .slot) (emptyRow Free)
-row-found c =
-    let x = c .before .before .before .before .before .visit-of in
-    getD-any (c .before .if3 .rows) (x .result .slot) _ (emptyRow Free) (rw (joined3 (c .before)) (omega (arith, slot-below (c .before .before .before .before .before .before .before .before) (x .result) (x .ensures), rows-for-full windowSize sixteen false (now (c .before .before .before .before .before .before .before .before) .board) (c .before .before .before .before .before .before .before .before .before .before .before .before .before .before .loop .inv .ready) (x .result))))
+  joined3 : c .if3 .rows ≡ rowsFor windowSize false (now (here (known seen)) .board) goal
+  joined3 =
+      let rows = c .before .before .if2 .rows in
+      ⊎-elim (λ w. w .2 ∙ ap (set rows (goal .slot)) (w .1 .ensures) ∙ opened-some (goal .slot) (goal .entered) rows (w .0 .taken)) (λ w. w .1 ∙ opened-none (goal .slot) (goal .entered) rows (w .0 .left)) (c .if3 .came)
+      ∙ ap (opened (goal .slot) (goal .entered)) (joined2 (c .before .before))
 
-shaped : (c : tie.After-cell-turn Inv-loop μ-loop) → Shaped (row (c .before .before .before))
-shaped c = record { indexes64 = c .cell-turn .ensures .1; lengths64 = c .cell-turn .ensures .2 }
+  abbrev row : Row
+  row = getD (c .if3 .rows) (goal .slot) (record { phase = Free; known = false; last = 0; held = 0; indexes = []; lengths = [] })
 
-low-after : (c : tie.After-cell-turn-arg Inv-loop μ-loop) → c .before .before .before .before .before .visit-of .result .greatest < 2 ^ 32
-low-after c = search needs
+  row-found : row ≡ getD (c .if3 .rows) (goal .slot) (emptyRow Free)
+  row-found = getD-any (c .if3 .rows) (goal .slot) _ (emptyRow Free) (omega (arith, slot-below seen, ap length joined3, rows-for-full windowSize sixteen false (now (here (known seen)) .board) (here (known seen) .loop .inv .ready) goal))
+
+  row-is : row ≡ visited windowSize false (now (here (known seen)) .board) (v (turn (known seen)))
+  row-is = row-found ∙ ap (λ (rows : List Row). getD rows (goal .slot) (emptyRow Free)) joined3 ∙ ap (visited windowSize false (now (here (known seen)) .board)) (seen .visit-of .ensures)
+
+  low-after : goal .greatest < 2 ^ 32
+  low-after = search needs
+
+-- the row has 64 entries, and what it hands out is no longer than a bundle
+module _ (c : tie.After-cell-turn Inv-loop μ-loop) where
+  abbrev found : tie.Joined3 Inv-loop μ-loop
+  found = c .before .before .before .before
+
+  shaped : Shaped (row found)
+  shaped = record { indexes64 = c .cell-turn .ensures .1; lengths64 = c .cell-turn .ensures .2 }
+
+  taken-size : size (c .cell-turn .result .delivery) ≤ bundleMax
+  taken-size =
+      let h = known (seen found) in
+      handed-fits (turn h) (small h) (goal found) (seen found .visit-of .ensures) (row found) (row-is found) shaped (c .cell-turn .result) _ _ (c .cell-turn .ensures .0)
+
+-- ---- the needs
 
 loop-holds : tie.Need-loop-holds Inv-loop μ-loop
-loop-holds c =
-    let a = c .before .before .before .before .args in
-    let p = c .before .before .before .before .pre in
-    begins (a .limit) (a .frame .now) (going (record { state = a .state; pool = a .pool .now }) (a .output .now) (a .from)) (p .3)
-    (record { sound = p .0; rows = full (c .before .before .before .before); pool = p .1 }) (low (c .before .before .before .before)) (p .4)
+loop-holds c = let s = c .before .before .before .before .before .before in begins (s .args .limits) (s .args .frame .now) (first s) (s .pre .0) (s .pre .2) (full s) (low s)
 
 more-requires : tie.Need-more-requires Inv-loop μ-loop
 more-requires c κs = let g = c .loop .inv in omega (arith, g .output, g .used)
 
 read-message-requires : tie.Need-read-message-requires Inv-loop μ-loop
-read-message-requires c κs = let l = c .before .before .loop in let a = c .before .before .before .before .before .before .before .args in omega (arith, ltb-true (l .progress .next) (length (a .frame .now)) (both (ltb (l .progress .next) (length (a .frame .now))) (roomy (l .progress) (a .limit) (length (l .output))) (sym (c .before .more .ensures) ∙ c .if1 .taken) .0))
+read-message-requires c κs = omega (arith, some-left (c .before .before .loop .inv) (sym (c .before .more .ensures) ∙ c .if1 .taken))
 
-enum-known-r : tie.Need-enum-known-r Inv-loop μ-loop
-enum-known-r c = search needs
+enum-known-m : tie.Need-enum-known-m Inv-loop μ-loop
+enum-known-m c = search needs
 
 enum-told : tie.Need-enum-told Inv-loop μ-loop
 enum-told c = search needs
@@ -175,25 +161,26 @@ enum-told c = search needs
 enum-told-2 : tie.Need-enum-told-2 Inv-loop μ-loop
 enum-told-2 c = search needs
 
+progressed-requires : tie.Need-progressed-requires Inv-loop μ-loop
+progressed-requires c κs = delivered (c .before .before) Nothing (omega arith)
+
 loop-less : tie.Need-loop-less Inv-loop μ-loop
-unfolding progressed
-loop-less c = later (c .before .before) _ Nothing Whole refl
+loop-less c = later (c .before .before .before) (c .progressed .result) Nothing Whole (c .progressed .ensures)
 
 loop-again : tie.Need-loop-again Inv-loop μ-loop
-unfolding progressed
-loop-again c = let h = c .before .before in passed (c .before .before .before .before .before .before .before .before .before .before .before .before .before .args .limit) (frame h) (first h) (items h) (size h) (now h) (c .before .before .before .before .before .before .before .before .loop .inv) (test h) (span h) (told h) (c .enum-told2 .given .1)
+loop-again c = rw (c .progressed .ensures) (passed (turn (c .before .before .before)) (c .before .enum-told2 .given .1))
 
 sub-content : tie.Need-sub-content Inv-loop μ-loop
-sub-content c = located (c .before) .ordered
+sub-content c = place (turn (c .before)) .ordered
 
 part-content-start : tie.Need-part-content-start Inv-loop μ-loop
-part-content-start c = omega (arith, located (c .before) .ordered, located (c .before) .within)
+part-content-start c = let l = place (turn (c .before)) in omega (arith, l .ordered, l .within)
 
 part-content-end : tie.Need-part-content-end Inv-loop μ-loop
-part-content-end c = omega (arith, located (c .before) .ordered, located (c .before) .within)
+part-content-end c = let l = place (turn (c .before)) in omega (arith, l .ordered, l .within)
 
 visit-of-requires : tie.Need-visit-of-requires Inv-loop μ-loop
-visit-of-requires c κs = fitted (c .before .before)
+visit-of-requires c κs = fits (turn (c .before .before))
 
 freed-requires : tie.Need-freed-requires Inv-loop μ-loop
 freed-requires c κs = search needs
@@ -202,77 +189,86 @@ empty-row-requires : tie.Need-empty-row-requires Inv-loop μ-loop
 empty-row-requires c κs = search needs
 
 mul-rows : tie.Need-mul-rows Inv-loop μ-loop
-mul-rows c = omega (arith, slot-below (c .before .before .before .before .before .before .before .before) (c .before .before .before .before .before .visit-of .result) (c .before .before .before .before .before .visit-of .ensures))
+mul-rows c = omega (arith, slot-below (c .before .before .before .before .before))
 
 array-set-from-rows : tie.Need-array-set-from-rows Inv-loop μ-loop
-array-set-from-rows c = slot-below (c .before .before .before .before .before .before .before .before) (c .before .before .before .before .before .visit-of .result) (c .before .before .before .before .before .visit-of .ensures)
+array-set-from-rows c = slot-below (c .before .before .before .before .before)
 
 mul-cell-turn : tie.Need-mul-cell-turn Inv-loop μ-loop
-mul-cell-turn c = omega (arith, slot-below (c .before .before .before .before .before .before .before) (c .before .before .before .before .visit-of .result) (c .before .before .before .before .visit-of .ensures))
+mul-cell-turn c = omega (arith, slot-below (seen c))
 
 array-copy-out-cell-turn : tie.Need-array-copy-out-cell-turn Inv-loop μ-loop
-array-copy-out-cell-turn c = slot-below (c .before .before .before .before .before .before .before) (c .before .before .before .before .visit-of .result) (c .before .before .before .before .visit-of .ensures)
+array-copy-out-cell-turn c = slot-below (seen c)
 
 cell-turn-requires : tie.Need-cell-turn-requires Inv-loop μ-loop
 cell-turn-requires c κs =
-    let h = c .before .before .before .before .before .before .before .before .before .before in
-    let x = c .before .before .before .before .before .before .before .visit-of in
-    let r = row-is h (x .result) (x .ensures) (c .before .before .before .if3 .rows) (joined3 (c .before .before .before)) (row (c .before .before)) (row-found (c .before .before)) in
-    (row-sound h (row (c .before .before)) r, admitted h (x .result) (x .ensures), slot-below h (x .result) (x .ensures), c .before .before .before .before .before .before .before .before .before .before .before .before .before .before .before .before .loop .inv .ready .pool, room (c .before .before .before .before .before .before .before .before .before .before .before .before .before .before .before .before .before .before .before .before .before .args .limit) (frame h) (first h) (items h) (size h) (now h) (c .before .before .before .before .before .before .before .before .before .before .before .before .before .before .before .before .loop .inv) (test h) (span h) (told h))
+    let f = c .before .before .before in
+    let h = known (seen f) in
+    (rw (row-is f) (found-sound (turn h)), rw (seen f .visit-of .ensures) (admit (turn h) (small h)), slot-below (seen f), here h .loop .inv .ready .pool, room (turn h))
 
 mul-rows-2 : tie.Need-mul-rows-2 Inv-loop μ-loop
-mul-rows-2 c = omega (arith, slot-below (c .before .before .before .before .before .before .before .before .before .before .before .before .before .before .before .before) (c .before .before .before .before .before .before .before .before .before .before .before .before .before .visit-of .result) (c .before .before .before .before .before .before .before .before .before .before .before .before .before .visit-of .ensures))
+mul-rows-2 c = omega (arith, slot-below (seen (found (c .before .before .before .before .before))))
 
 array-set-from-rows-2 : tie.Need-array-set-from-rows-2 Inv-loop μ-loop
-array-set-from-rows-2 c = slot-below (c .before .before .before .before .before .before .before .before .before .before .before .before .before .before .before .before) (c .before .before .before .before .before .before .before .before .before .before .before .before .before .visit-of .result) (c .before .before .before .before .before .before .before .before .before .before .before .before .before .visit-of .ensures)
+array-set-from-rows-2 c = slot-below (seen (found (c .before .before .before .before .before)))
 
-progressed-requires : tie.Need-progressed-requires Inv-loop μ-loop
-progressed-requires c κs =
-    let h = c .before .before .before .before .before .before .before .before .before .before .before .before .before .before .before .before in
-    let x = c .before .before .before .before .before .before .before .before .before .before .before .before .before .visit-of in
-    let t = c .before .before .before .before .before .cell-turn in
-    let r = row-is h (x .result) (x .ensures) (c .before .before .before .before .before .before .before .before .before .if3 .rows) (joined3 (c .before .before .before .before .before .before .before .before .before)) (row (c .before .before .before .before .before .before .before .before)) (row-found (c .before .before .before .before .before .before .before .before)) in
-    delivered h (x .result) (x .ensures) (row (c .before .before .before .before .before .before .before .before)) r (shaped (c .before .before .before .before .before)) (t .result) _ _ (t .ensures .0)
+list-bundle-requires : tie.Need-list-bundle-requires Inv-loop μ-loop
+list-bundle-requires c κs = taken-size (c .before .before .before .before .before .before .before)
+
+-- from the lists of lengths and numbers back to the row's turn
+abbrev taken : tie.After-list-bundle Inv-loop μ-loop → tie.After-cell-turn Inv-loop μ-loop
+taken c = c .before .before .before .before .before .before .before .before
+
+progressed-requires-2 : tie.Need-progressed-requires-2 Inv-loop μ-loop
+progressed-requires-2 c κs = let t = taken (c .before .before .before .before) in delivered (known (seen (found t))) (t .cell-turn .result .delivery) (taken-size t)
 
 loop-less-2 : tie.Need-loop-less-2 Inv-loop μ-loop
-loop-less-2 c = later (c .before .before .before .before .before .before .before .before .before .before .before .before .before .before .before .before .before) (c .progressed .result) (c .before .before .before .before .before .before .cell-turn .result .delivery) (c .before .before .before .before .before .before .before .before .before .before .before .before .before .before .visit-of .result .origin) (c .progressed .ensures)
+loop-less-2 c = let t = taken (c .before .before .before .before .before) in later (known (seen (found t))) (c .progressed2 .result) (t .cell-turn .result .delivery) (goal (found t) .origin) (c .progressed2 .ensures)
 
 loop-again-2 : tie.Need-loop-again-2 Inv-loop μ-loop
 loop-again-2 c =
-    let h = c .before .before .before .before .before .before .before .before .before .before .before .before .before .before .before .before .before in
-    let x = c .before .before .before .before .before .before .before .before .before .before .before .before .before .before .visit-of in
-    let t = c .before .before .before .before .before .before .cell-turn in
-    turned (c .before .before .before .before .before .before .before .before .before .before .before .before .before .before .before .before .before .before .before .before .before .before .before .before .before .before .before .before .args .limit) (frame h) (first h) (items h) (size h) (now h) (c .before .before .before .before .before .before .before .before .before .before .before .before .before .before .before .before .before .before .before .before .before .before .before .loop .inv) (test h) (span h) (told h) (small h) (x .result) (x .ensures)
-    (c .before .before .before .before .before .before .before .before .before .before .if3 .rows) (joined3 (c .before .before .before .before .before .before .before .before .before .before)) (row (c .before .before .before .before .before .before .before .before .before)) (row-found (c .before .before .before .before .before .before .before .before .before)) (shaped (c .before .before .before .before .before .before)) (low-after (c .before .before .before .before .before .before .before .before .before))
-    (t .result) _ _ (t .ensures .0) (c .progressed .result) (c .progressed .ensures)
+    let l = c .before .before .before .before .before in
+    let t = taken l in
+    let f = found t in
+    let h = known (seen f) in
+    turned (turn h) (small h) (goal f) (seen f .visit-of .ensures) (f .if3 .rows) (joined3 f) (row f) (row-found f) (shaped t) (low-after f)
+    (t .cell-turn .result) _ _ (t .cell-turn .ensures .0) _ (l .list-bundle .ensures .0) _ (l .list-bundle .ensures .1) (c .progressed2 .result) (c .progressed2 .ensures)
 
 same-length : tie.Need-same-length Inv-loop μ-loop
-same-length c = let g = c .before .before .loop .inv in g .ready .pool ∙ sym (c .before .before .before .before .before .before .before .pre .1)
+same-length c = let l = c .before .before in l .loop .inv .ready .pool ∙ sym (start l .pre .0 .pooled)
 
 same-length-2 : tie.Need-same-length-2 Inv-loop μ-loop
-same-length-2 c = let g = c .before .before .loop .inv in g .output
-
-returns : tie.Need-returns Inv-loop μ-loop
-returns c =
-    let l = c .before .before .loop in
-    let a = c .before .before .before .before .before .before .before .args in
-    ends (a .limit) (a .frame .now) (going (record { state = a .state; pool = a .pool .now }) (a .output .now) (a .from)) (messagesFrom draft02 (a .frame .now) (a .from .next)) (length (a .output .now))
-    (record { board = record { state = record { present = l .present; greatest = l .greatest; rows = l .rows }; pool = l .pool }; output = l .output; progress = l .progress })
-    (l .inv) (sym (c .before .more .ensures) ∙ c .if1 .left)
+same-length-2 c = c .before .before .loop .inv .output
 
 same-length-3 : tie.Need-same-length-3 Inv-loop μ-loop
-same-length-3 c = let g = c .before .before .before .before .before .loop .inv in g .ready .pool ∙ sym (c .before .before .before .before .before .before .before .before .before .before .pre .1)
+same-length-3 c = c .before .before .loop .inv .lengths
 
 same-length-4 : tie.Need-same-length-4 Inv-loop μ-loop
-same-length-4 c = let g = c .before .before .before .before .before .loop .inv in g .output
+same-length-4 c = c .before .before .loop .inv .numbers
+
+returns : tie.Need-returns Inv-loop μ-loop
+returns c = let g = c .before .before .loop .inv in (ends g (sym (c .before .more .ensures) ∙ c .if1 .left), record { sound = g .ready .sound; pooled = g .ready .pool; used = omega (arith, g .used, g .output) })
+
+-- a bad message, which there is not
+module _ (c : tie.After-enum-told Inv-loop μ-loop) where
+  abbrev stood : tie.At-loop Inv-loop μ-loop
+  stood = c .before .before .before .before .before
+
+same-length-5 : tie.Need-same-length-5 Inv-loop μ-loop
+same-length-5 c = stood c .loop .inv .ready .pool ∙ sym (start (stood c) .pre .0 .pooled)
+
+same-length-6 : tie.Need-same-length-6 Inv-loop μ-loop
+same-length-6 c = stood c .loop .inv .output
+
+same-length-7 : tie.Need-same-length-7 Inv-loop μ-loop
+same-length-7 c = stood c .loop .inv .lengths
+
+same-length-8 : tie.Need-same-length-8 Inv-loop μ-loop
+same-length-8 c = stood c .loop .inv .numbers
 
 returns-2 : tie.Need-returns-2 Inv-loop μ-loop
 returns-2 c =
-    let l = c .before .before .before .before .before .loop in
-    let a = c .before .before .before .before .before .before .before .before .before .before .args in
-    never-bad (a .limit) (a .frame .now) (going (record { state = a .state; pool = a .pool .now }) (a .output .now) (a .from)) (messagesFrom draft02 (a .frame .now) (a .from .next)) (length (a .output .now))
-    (record { board = record { state = record { present = l .present; greatest = l .greatest; rows = l .rows }; pool = l .pool }; output = l .output; progress = l .progress })
-    (l .inv) (sym (c .before .before .before .before .more .ensures) ∙ c .before .before .before .if1 .taken) _ (sym (c .before .before .read-message .ensures) ∙ c .enum-told .given .1)
+    never-bad (stood c .loop .inv) (sym (c .before .before .before .before .more .ensures) ∙ c .before .before .before .if1 .taken) _ (sym (c .before .before .read-message .ensures) ∙ c .enum-told .given .1)
 
 pub run-spec : {M : Type 1} → statement M
 run-spec =
@@ -283,9 +279,10 @@ run-spec =
     loop-holds
     more-requires
     read-message-requires
-    enum-known-r
+    enum-known-m
     enum-told
     enum-told-2
+    progressed-requires
     loop-less
     loop-again
     sub-content
@@ -301,12 +298,17 @@ run-spec =
     cell-turn-requires
     mul-rows-2
     array-set-from-rows-2
-    progressed-requires
+    list-bundle-requires
+    progressed-requires-2
     loop-less-2
     loop-again-2
     same-length
     same-length-2
-    returns
     same-length-3
     same-length-4
+    returns
+    same-length-5
+    same-length-6
+    same-length-7
+    same-length-8
     returns-2)

@@ -1,15 +1,25 @@
 -- `receiver::receive` meets its contract.
-use mathlib.Core.Path.{sym, ap, _∙_}
+use mathlib.Core.Option.{Option, none}
+use mathlib.Core.Path.{_≡_, sym, ap, _∙_}
 use native.Mathlib.Omega.{arith}
-use borrow.Author.Needs.{needs}
+use Rattle.wire.proofs.Spans.{sized}
 use Rattle.window.specs.Window.{windowSize}
 use Rattle.rows.specs.Message.{Board, draft02, messagesFrom}
 use Rattle.receiver.specs.Receive.{refusal}
+use Rattle.receiver.specs.declared.Refusal.{Refusal}
 use Rattle.rows.specs.declared.Origin.the-variants.{Whole}
-use Rattle.receiver.proofs.Limit.{replyOf, one-bundle}
-use Rattle.receiver.proofs.Refusals.{denied, admitted, refused, treated, admits}
+use Rattle.receiver.proofs.Limit.{replyOf, one-bundle, few-messages}
+use Rattle.receiver.proofs.Refusals.{denied, admitted, refused, treated, Admits, admits}
+use borrow.Author.Needs.{needs}
 use Rattle.receiver.proofs.receive.Statement.{statement}
 use Rattle.receiver.proofs.receive.Tie as tie
+
+module _ (c : tie.Start) where
+  abbrev board : Board
+  board = record { state = c .args .state; pool = c .args .pool .now }
+
+  abbrev refusalAt : Option Refusal
+  refusalAt = refusal draft02 windowSize board (c .args .frame .now) (c .args .place) (c .args .output .now)
 
 admit-requires : tie.Need-admit-requires
 admit-requires c κs = search needs
@@ -25,19 +35,36 @@ same-length-2 c = search needs
 
 returns : tie.Need-returns
 returns c =
-    let a = c .before .before .before .before .before .before .before .before .before .args in
-    let b : Board = record { state = a .state; pool = a .pool .now } in
-    sym (refused draft02 windowSize b (a .frame .now) (a .place) (a .output .now) _ (denied (refusal draft02 windowSize b (a .frame .now) (a .place) (a .output .now)) _ (sym (c .before .before .before .admit .ensures) ∙ c .before .a .given .1)))
+    let s = c .before .before .before .before .before .before .before .before .before in
+    sym (refused draft02 windowSize (board s) (s .args .frame .now) (s .args .place) (s .args .output .now) _ (denied (refusalAt s) _ (sym (c .before .before .before .admit .ensures) ∙ c .before .a .given .1)))
 
 enum-told : tie.Need-enum-told
 enum-told c = search needs
 
+begun-requires : tie.Need-begun-requires
+begun-requires c κs = search needs
+
+slice-aggregate-run : tie.Need-slice-aggregate-run
+slice-aggregate-run c = search needs
+
+slice-aggregate-run-2 : tie.Need-slice-aggregate-run-2
+slice-aggregate-run-2 c = search needs
+
+-- a call that is not refused
+module _ (c : tie.After-enum-told) where
+  abbrev start : tie.Start
+  start = c .before .before .before .before .before .before .before .before
+
+  none-applies : refusalAt start ≡ none
+  none-applies = admitted (refusalAt start) (sym (c .before .before .admit .ensures) ∙ c .enum-told .given .1)
+
+  admitting : Admits draft02 windowSize (board start) (start .args .frame .now) (start .args .place) (start .args .output .now)
+  admitting = admits draft02 windowSize (board start) (start .args .frame .now) (start .args .place) (start .args .output .now) none-applies
+
 run-requires : tie.Need-run-requires
 run-requires c κs =
-    let a = c .before .before .before .before .before .before .before .before .before .before .args in
-    let b : Board = record { state = a .state; pool = a .pool .now } in
-    let f = admits draft02 windowSize b (a .frame .now) (a .place) (a .output .now) (admitted (refusal draft02 windowSize b (a .frame .now) (a .place) (a .output .now)) (sym (c .before .before .before .before .admit .ensures) ∙ c .before .before .enum-told .given .1)) in
-    (f .state, f .pool, f .small, f .accepted, omega arith)
+    let f = admitting (c .before .before .before .before .before) in
+    rw (c .before .before .before .begun .ensures) (record { sound = f .state; pooled = f .pool; used = omega arith }, f .frame-fit .small, f .frame-fit .accepted)
 
 answer-of-requires : tie.Need-answer-of-requires
 answer-of-requires c κs = search needs
@@ -50,14 +77,16 @@ same-length-4 c = search needs
 
 returns-2 : tie.Need-returns-2
 returns-2 c =
-    let a = c .before .before .before .before .before .before .before .before .before .before .before .before .before .before .before .before .before .before .args in
-    let r = c .before .before .before .before .before .before .before .run in
-    let b : Board = record { state = a .state; pool = a .pool .now } in
-    let e = admitted (refusal draft02 windowSize b (a .frame .now) (a .place) (a .output .now)) (sym (c .before .before .before .before .before .before .before .before .before .before .before .before .admit .ensures) ∙ c .before .before .before .before .before .before .before .before .before .before .enum-told .given .1) in
-    let f = admits draft02 windowSize b (a .frame .now) (a .place) (a .output .now) e in
+    let told = c .before .before .before .before .before .before .before .before .before .before .before .before .before .before .before in
+    let begun = c .before .before .before .before .before .before .before .before .before .before .before .before .before .begun in
+    let r = c .before .before .before .before .before .before .before .before .before .run in
+    let s = start told in
+    let a = s .args in
+    let f = admitting told in
     rw (c .answer-of .ensures)
-    (ap replyOf (r .ensures) ∙ one-bundle draft02 windowSize b (messagesFrom draft02 (a .frame .now) (a .place)) (a .output .now) (a .place) Whole (f .room)
-    ∙ sym (treated draft02 windowSize b (a .frame .now) (a .place) (a .output .now) e))
+    (ap replyOf (rw (begun .ensures) at (r .ensures .0))
+    ∙ one-bundle draft02 windowSize _ _ _ 0 (board s) (messagesFrom draft02 (a .frame .now) (a .place)) (a .output .now) (a .place) Whole (f .room) (omega (arith, few-messages draft02 sized (a .frame .now) (a .place) (f .frame-fit .accepted), f .frame-fit .small))
+    ∙ sym (treated draft02 windowSize (board s) (a .frame .now) (a .place) (a .output .now) (none-applies told)))
 
 pub receive-spec : {M : Type 1} → statement M
 receive-spec =
@@ -69,6 +98,9 @@ receive-spec =
     same-length-2
     returns
     enum-told
+    begun-requires
+    slice-aggregate-run
+    slice-aggregate-run-2
     run-requires
     answer-of-requires
     same-length-3
