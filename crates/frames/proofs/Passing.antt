@@ -1,0 +1,134 @@
+-- The loop over frames: what it keeps.
+use mathlib.Core.Bool.{Bool, true, false, _&&_}
+use mathlib.Core.List.{List, [], _∷_}
+use mathlib.Core.Logic.{_⊎_, inl, inr}
+use mathlib.Core.Path.{_≡_, refl, sym, _∙_}
+use Prim.Native.Nat.{ℕ, _+_, _-_, _≤_, _<_}
+use native.Mathlib.Numerals.{add-one}
+use native.Mathlib.Omega.{arith}
+use lib.Dec.{ltb, eqb}
+use lib.ListN.{length, getD, take, drop, length-set, length-drop, drop-of-length-le}
+use lib.Seq.{drop-cons, drop-drop, length-take-le}
+use borrow.Author.Tests.{ltb-true, ltb-false}
+use Rattle.octets.specs.Octets.{sumOf}
+use Rattle.octets.proofs.Flags.{bool, both, cond-elim}
+use Rattle.window.specs.Window.{windowSize}
+use Rattle.rows.specs.Message.{draft02}
+use Rattle.messages.specs.declared.Limits.{Limits}
+use Rattle.messages.specs.Run.{Run, roomy, Able}
+use Rattle.frames.specs.Frames.{framesOf, Taking, Reach, entered, counted, noted, within, takes, through}
+
+length-entered : (reason k x : ℕ) (xs : List ℕ) → length (entered reason k x xs) ≡ length xs
+length-entered reason k x xs = cond-elim (λ (ys : List ℕ). length ys ≡ length xs) (eqb reason 0) (λ _. refl) (λ _. length-set xs k x)
+
+counted-few : (reason n k : ℕ) → n ≤ k → counted reason n ≤ k + 1
+counted-few reason n k h = cond-elim (λ (m : ℕ). m ≤ k + 1) (eqb reason 0) (λ _. omega arith) (λ _. omega arith)
+
+abbrev ableIn : Run → Type 0
+ableIn r = Able (r .board .state) (r .board .pool) (r .output) (r .progress)
+
+-- lent memory keeps its lengths
+pub record Keeps (r₀ r : Run) : Type 0 where
+  pub pool : length (r .board .pool) ≡ length (r₀ .board .pool)
+  pub output : length (r .output) ≡ length (r₀ .output)
+  pub lengths : length (r .lengths) ≡ length (r₀ .lengths)
+  pub numbers : length (r .numbers) ≡ length (r₀ .numbers)
+
+-- r is how far the frames before frame k came, which starts at an octet
+pub record Passing (limits : Limits) (sizes octets : List ℕ) (r₀ : Reach) (k at : ℕ) (r : Reach) : Type 0 where
+  pub same : through draft02 windowSize limits r₀ (framesOf sizes octets) ≡ through draft02 windowSize limits r (framesOf (drop k sizes) (drop at octets))
+  pub able : ableIn (r .run)
+  pub some : k ≤ length sizes
+  pub room : at + sumOf (drop k sizes) ≤ length octets
+  pub frame : r .frame ≡ r₀ .frame + k
+  pub few : r .refused ≤ k
+  pub kept : Keeps (r₀ .run) (r .run)
+  pub places : length (r .places) ≡ length (r₀ .places)
+  pub reasons : length (r .reasons) ≡ length (r₀ .reasons)
+
+-- whether a further frame is looked at
+abbrev pub goesOn : Limits → List ℕ → ℕ → Reach → Bool
+goesOn limits sizes k r = ltb k (length sizes) && roomy (r .run .progress) limits (length (r .run .output))
+
+pub begins : (limits : Limits) (sizes octets : List ℕ) (r : Reach) → ableIn (r .run) → sumOf sizes ≤ length octets → r .refused ≡ 0 → Passing limits sizes octets r 0 0 r
+begins limits sizes octets r A fits none = record {
+  same = refl;
+  able = A;
+  some = omega arith;
+  room = omega arith;
+  frame = omega arith;
+  few = omega arith;
+  kept = record { pool = refl; output = refl; lengths = refl; numbers = refl };
+  places = refl;
+  reasons = refl;
+}
+
+module _ {limits : Limits} {sizes octets : List ℕ} {r₀ : Reach} {k at : ℕ} {r : Reach} (P : Passing limits sizes octets r₀ k at r) where
+  -- the loop ends: no frame is left, or a limit is reached
+  pub ends : goesOn limits sizes k r ≡ false → r ≡ through draft02 windowSize limits r₀ (framesOf sizes octets)
+  unfolding through framesOf
+  ends test = sym (P .same ∙ go (bool (ltb k (length sizes))))
+    where
+      stops : (fs : List (List ℕ)) → roomy (r .run .progress) limits (length (r .run .output)) ≡ false → through draft02 windowSize limits r fs ≡ r
+      stops [] e = refl
+      stops (f ∷ fs) e = rw e
+
+      go : (ltb k (length sizes) ≡ true) ⊎ (ltb k (length sizes) ≡ false) → through draft02 windowSize limits r (framesOf (drop k sizes) (drop at octets)) ≡ r
+      go (inl e) = stops (framesOf (drop k sizes) (drop at octets)) (rw e at test)
+      go (inr e) = rw (drop-of-length-le sizes {i = k} (ltb-false k (length sizes) e))
+
+  module _ (test : goesOn limits sizes k r ≡ true) where
+    tests : (ltb k (length sizes) ≡ true) × (roomy (r .run .progress) limits (length (r .run .output)) ≡ true)
+    tests = both (ltb k (length sizes)) (roomy (r .run .progress) limits (length (r .run .output))) test
+
+    pub k< : k < length sizes
+    k< = ltb-true k (length sizes) (tests .0)
+
+    abbrev n : ℕ
+    n = getD sizes k 0
+
+    here : drop k sizes ≡ n ∷ drop (k + 1) sizes
+    here = drop-cons sizes k 0 k< ∙ rw add-one
+
+    onward : at + n + sumOf (drop (k + 1) sizes) ≤ length octets
+    unfolding sumOf
+    onward = let h : at + sumOf (n ∷ drop (k + 1) sizes) ≤ length octets = rw here at (P .room) in omega arith
+
+    -- the frame lies within the octets
+    pub inside : at + n ≤ length octets
+    inside = omega (arith, onward)
+
+    abbrev f : List ℕ
+    f = take (at + n - at) (drop at octets)
+
+    width : at + n - at ≡ n
+    width = omega arith
+
+    length-f : length f ≡ n
+    length-f = rw width (length-take-le n (drop at octets) (rw length-drop (omega (arith, onward))))
+
+    frames-here : framesOf (drop k sizes) (drop at octets) ≡ f ∷ framesOf (drop (k + 1) sizes) (drop (at + n) octets)
+    unfolding framesOf
+    frames-here = rw (here, width, drop-drop n at octets)
+
+    module _ (t : Taking) (e : t ≡ takes draft02 windowSize limits (r .run) f) where
+      -- a frame is left before its end
+      pub stopped : (eqb (t .reason) 0 && ltb (t .run .progress .next) n) ≡ true → within r t ≡ through draft02 windowSize limits r₀ (framesOf sizes octets)
+      unfolding through
+      stopped q = sym (P .same ∙ rw (frames-here, tests .1, ← e, length-f, q))
+
+      -- the next frame follows
+      pub passes : (eqb (t .reason) 0 && ltb (t .run .progress .next) n) ≡ false → ableIn (t .run) → Keeps (r .run) (t .run) → Passing limits sizes octets r₀ (k + 1) (at + n) (noted r t)
+      unfolding through
+      passes q A K =
+          record {
+            same = P .same ∙ rw (frames-here, tests .1, ← e, length-f, q);
+            able = record { sound = A .sound; pooled = A .pooled; used = A .used };
+            some = omega (arith, k<);
+            room = onward;
+            frame = omega (arith, P .frame);
+            few = counted-few (t .reason) (r .refused) k (P .few);
+            kept = record { pool = K .pool ∙ P .kept .pool; output = K .output ∙ P .kept .output; lengths = K .lengths ∙ P .kept .lengths; numbers = K .numbers ∙ P .kept .numbers };
+            places = length-entered (t .reason) (r .refused) (r .frame) (r .places) ∙ P .places;
+            reasons = length-entered (t .reason) (r .refused) (t .reason) (r .reasons) ∙ P .reasons;
+          }
