@@ -1,8 +1,9 @@
 /*
- * btpu.h - bundle transfer over frames: receiver and sender
+ * btpu.h - bundle transfer over frames: receiver, sender and recordings
  *
  * A frame is one link-layer PDU of 1 to 2,048 octets. A sender fills frames with bundles, whole
  * or in pieces; a receiver takes frames, in any order and with losses, and hands the bundles out.
+ * A recording keeps frames in order, and can be played back on a fresh receiver.
  *
  * Memory. The library allocates nothing and keeps nothing. The caller lends every octet for the
  * time of a call: the image of the state, the pool, the frame, the output. What is lent must be
@@ -11,9 +12,10 @@
  * images and buffers may run at the same time.
  *
  * Answers. Every function returns 0, or the number of a refusal (BTPU_REFUSED_...). The first
- * refusal that applies, in the order of the numbers, is given. A refused call changes nothing
- * that was lent, with one exception: refusals 4 to 8 write the place of the bad message to
- * result[BTPU_PLACE]. Entries of `result` that carry no meaning for an answer stay as they were.
+ * refusal that applies is given, in the order of the numbers unless a function names another. A
+ * refused call changes nothing that was lent, with one exception: refusals 4 to 8 write the place
+ * of the bad message to result[BTPU_PLACE]. Entries of `result` that carry no meaning for an
+ * answer stay as they were.
  *
  * Images. The state of a receiver or a sender is an image of a fixed number of octets. Let
  * btpu_receiver_start or btpu_sender_start write it first, and hand it back as it was left. It may
@@ -48,6 +50,13 @@
  *     octets  18 to 19  octets of it that are placed
  *     octets  20 to 23  index of its next piece
  *     Octets 12 to 23 are zero if no transfer is begun.
+ *
+ * Recording, at most BTPU_MAX_RECORDING octets, numbers big-endian:
+ *
+ *     4 octets          number of frames n, at most BTPU_RECORDED_FRAMES
+ *     2 * n octets      the length of each frame, 1 to 2,048
+ *     4 octets          number of octets m, the sum of the lengths, at most BTPU_RECORDED_OCTETS
+ *     m octets          the frames, one behind another
  */
 #ifndef BTPU_H
 #define BTPU_H
@@ -69,6 +78,13 @@ extern "C" {
 #define BTPU_MAX_FRAME 2048
 #define BTPU_MIN_FRAME_SIZE 128
 #define BTPU_MAX_FRAME_SIZE 2048
+#define BTPU_MAX_RECORDING 63496
+
+/* What a recording holds at most, and what a playback of it comes to at most */
+
+#define BTPU_RECORDED_FRAMES 1024
+#define BTPU_RECORDED_OCTETS 61440
+#define BTPU_PLAYED_BUNDLES 15360
 
 /* The sender's image: where the flag stands that tells whether a transfer is begun */
 
@@ -82,6 +98,17 @@ extern "C" {
 #define BTPU_LENGTH 1 /* of a bundle: its length in the output */
 #define BTPU_PLACE 2  /* of a bundle: the next place; of refusals 4 to 8: the bad message's start */
 #define BTPU_NUMBER 3 /* of a bundle: its transfer number, or BTPU_NO_NUMBER */
+
+#define BTPU_WRITTEN 0 /* btpu_record: octets written */
+
+#define BTPU_OPENED_FRAMES 0 /* btpu_recording_open: number of frames */
+#define BTPU_OPENED_OCTETS 1 /* octets of all frames */
+#define BTPU_OPENED_START 2  /* where in the recording the frames' octets start */
+
+#define BTPU_PLAYED_MESSAGES 0 /* btpu_play: messages treated */
+#define BTPU_PLAYED_COUNT 1    /* bundles handed out */
+#define BTPU_PLAYED_OCTETS 2   /* octets of all bundles */
+#define BTPU_PLAYED_REFUSED 3  /* frames refused */
 
 /* Answers of btpu_receive */
 
@@ -102,7 +129,8 @@ extern "C" {
 /* Refusals */
 
 #define BTPU_REFUSED_STATE 1         /* all calls: not a sound state, or an image of wrong length */
-#define BTPU_REFUSED_LENT 2          /* receive: pool not 65,536 octets, or output below 4,096 */
+#define BTPU_REFUSED_LENT 2          /* receive: pool not 65,536 octets, or output below 4,096;
+                                        play: pool not 65,536 octets */
 #define BTPU_REFUSED_FRAME_LENGTH 3  /* receive: frame of 0 or more than 2,048 octets */
 #define BTPU_REFUSED_HEADER 4        /* receive: fewer than 4 octets left for a header */
 #define BTPU_REFUSED_FLAG 5          /* never given: reserved flag bits are ignored */
@@ -116,6 +144,14 @@ extern "C" {
 #define BTPU_REFUSED_OTHER_LENGTH 12 /* place: not the length of the transfer begun */
 #define BTPU_REFUSED_NOT_BEGUN 13    /* cancel: no transfer is begun */
 #define BTPU_REFUSED_FRAME_SIZE 14   /* sender's start: frame size outside 128 to 2,048 */
+#define BTPU_REFUSED_CUT_SHORT 16    /* recording_open, play: octets of the recording are missing */
+#define BTPU_REFUSED_OVER_LIMIT 17   /* record, recording_open, play: more than 1,024 frames or
+                                        61,440 octets */
+#define BTPU_REFUSED_RECORDED_LENGTH 18 /* the same: a frame's length outside 1 to 2,048 */
+#define BTPU_REFUSED_OCTET_COUNT 19  /* the same: the octets are not the sum of the lengths */
+#define BTPU_REFUSED_LEFT_OVER 20    /* recording_open, play: octets behind the recording */
+#define BTPU_REFUSED_SHORT_OUTPUT 24 /* record: output too short; play: an output or a list has
+                                        fewer entries than btpu_play asks for */
 
 /*
  * Writes the image of a fresh receiver. The old content of the image does not matter.
@@ -177,6 +213,47 @@ uint32_t btpu_cancel(uint8_t *state, size_t state_len, uint8_t *frame, size_t fr
  */
 uint32_t btpu_flush(uint8_t *state, size_t state_len, uint8_t *frame, size_t frame_len,
                     uint64_t result[BTPU_RESULT]);
+
+/*
+ * Writes frames as a recording to the front of the output; the output's other octets stay. The
+ * frames are given by their lengths, sizes[0] to sizes[frames - 1], and their octets, one behind
+ * another. result[BTPU_WRITTEN] is the length of the recording, 8 + 2 * frames + octets_len.
+ * Refusals: 17, 18, 19, 24, in this order.
+ */
+uint32_t btpu_record(const uint16_t *sizes, size_t frames, const uint8_t *octets,
+                     size_t octets_len, uint8_t *output, size_t output_len,
+                     uint64_t result[BTPU_RESULT]);
+
+/*
+ * Reads a recording: the lengths of its frames go to sizes, followed by zeros; the entries
+ * BTPU_OPENED_... of result say how many frames and octets there are and where the octets start.
+ * Refusals: 16 or 17, whichever comes first in the recording; then 18, 19, 20, in this order.
+ */
+uint32_t btpu_recording_open(const uint8_t *recording, size_t recording_len,
+                             uint16_t sizes[BTPU_RECORDED_FRAMES], uint64_t result[BTPU_RESULT]);
+
+/*
+ * Plays a recording on a fresh receiver, until `limit` messages are treated or all are. It may
+ * stop inside a frame; a frame behind the last message is not looked at. Every message counts,
+ * a run of padding as one; a refused frame has none.
+ *
+ * The bundles go one behind another to the front of the output, their lengths to the front of
+ * lengths; for each frame refused, its place in the recording, from 0, goes to places and the
+ * number of its refusal to reasons. All other octets and entries stay. The entries
+ * BTPU_PLAYED_... of result say how many there are of each. The pool is left as btpu_receive
+ * would leave it.
+ *
+ * The pool has BTPU_POOL octets. At least BTPU_RECORDED_OCTETS octets of output,
+ * BTPU_PLAYED_BUNDLES lengths, and BTPU_RECORDED_FRAMES places and reasons are asked for: every
+ * recording has room in them. The call takes up to BTPU_PLAY_STACK octets of the stack.
+ * Refusals: 16 to 20 as btpu_recording_open gives them; then 2; then 24.
+ */
+#define BTPU_PLAY_STACK 98304
+
+uint32_t btpu_play(const uint8_t *recording, size_t recording_len, uint64_t limit, uint8_t *pool,
+                   size_t pool_len, uint8_t *output, size_t output_len, uint16_t *lengths,
+                   size_t lengths_len, uint32_t *places, size_t places_len, uint32_t *reasons,
+                   size_t reasons_len, uint64_t result[BTPU_RESULT]);
 
 #ifdef __cplusplus
 }

@@ -1,7 +1,11 @@
 -- Laws of the calls on images.
 --     ReceiverCalls   the receiving call
 --     SenderCalls     the sender's calls
+--     RecordingCalls  the calls on recordings
+--     Kept            what the calls on recordings keep
 --     Reserved        reserved flag bits are ignored
 pub mod ReceiverCalls
 pub mod SenderCalls
+pub mod RecordingCalls
+pub mod Kept
 pub mod Reserved
