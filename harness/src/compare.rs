@@ -1,9 +1,13 @@
 //! Calls made on both sides at once, and every octet compared.
 
-use crate::coverage::{Coverage, FRAME_LENGTHS, FRAME_SIZES};
+use crate::coverage::{Coverage, FRAME_LENGTHS, FRAME_SIZES, NEVER_GIVEN};
 use crate::ffi::{self, MIN_OUTPUT, NO_NUMBER, POOL, RECEIVER_IMAGE, SENDER_IMAGE};
 use crate::model::interface;
 use crate::random::Random;
+
+mod recording;
+
+pub use recording::{Opened, PlayMemory, Played};
 
 /// One run of a scenario. A difference ends it with a message that names scenario and seed.
 pub struct Trial<'a> {
@@ -27,18 +31,24 @@ impl<'a> Trial<'a> {
 
     #[track_caller]
     pub fn check(&self, good: bool, what: &str) {
-        assert!(
-            good,
+        if !good {
+            self.fail(what);
+        }
+    }
+
+    #[track_caller]
+    pub fn fail(&self, what: &str) -> ! {
+        panic!(
             "scenario {}, seed {}, call {}: {what}",
             self.scenario, self.seed, self.calls
         );
     }
 
     #[track_caller]
-    fn same(&self, model: &[u8], exported: &[u8], what: &str) {
+    fn same<T: PartialEq>(&self, model: &[T], exported: &[T], what: &str) {
         if model != exported {
             let at = model.iter().zip(exported).position(|(a, b)| a != b);
-            self.check(false, &format!("{what} differs at {at:?}"));
+            self.fail(&format!("{what} differs at {at:?}"));
         }
     }
 
@@ -52,42 +62,45 @@ impl<'a> Trial<'a> {
         if model != exported {
             let [model, exported] = [model, exported]
                 .map(|(number, result)| format!("{number} with result {result:x?}"));
-            self.check(false, &format!("model: {model}, exported: {exported}"));
+            self.fail(&format!("model: {model}, exported: {exported}"));
         }
-        self.check(model.0 <= 14, "no such refusal");
-        self.coverage.refusals[model.0 as usize] += 1;
+        let number = model.0 as usize;
+        let given = number < self.coverage.refusals.len() && !NEVER_GIVEN.contains(&number);
+        self.check(given, "no such refusal");
+        self.coverage.refusals[number] += 1;
     }
 }
 
 const GUARD: usize = 64;
 const GUARD_OCTET: u8 = 0xc3;
 
-/// Octets lent to the exported side, with guards before and behind that nobody may write to.
+/// What is lent to the exported side, with guards before and behind that nobody may write to.
 #[derive(Clone)]
-pub struct Lent {
-    octets: Vec<u8>,
+pub struct Lent<T = u8> {
+    entries: Vec<T>,
 }
 
-impl Lent {
-    pub fn new(content: &[u8]) -> Lent {
-        let mut octets = vec![GUARD_OCTET; content.len() + 2 * GUARD];
-        octets[GUARD..GUARD + content.len()].copy_from_slice(content);
-        Lent { octets }
+impl<T: Copy + PartialEq + From<u8>> Lent<T> {
+    pub fn new(content: &[T]) -> Lent<T> {
+        let mut entries = vec![GUARD_OCTET.into(); content.len() + 2 * GUARD];
+        entries[GUARD..GUARD + content.len()].copy_from_slice(content);
+        Lent { entries }
     }
 
-    pub fn get(&self) -> &[u8] {
-        &self.octets[GUARD..self.octets.len() - GUARD]
+    pub fn get(&self) -> &[T] {
+        &self.entries[GUARD..self.entries.len() - GUARD]
     }
 
-    pub fn lend(&mut self) -> &mut [u8] {
-        let end = self.octets.len() - GUARD;
-        &mut self.octets[GUARD..end]
+    pub fn lend(&mut self) -> &mut [T] {
+        let end = self.entries.len() - GUARD;
+        &mut self.entries[GUARD..end]
     }
 
     fn guards_stay(&self) -> bool {
-        let (before, rest) = self.octets.split_at(GUARD);
+        let (before, rest) = self.entries.split_at(GUARD);
         let (_, behind) = rest.split_at(rest.len() - GUARD);
-        before == [GUARD_OCTET; GUARD] && behind == [GUARD_OCTET; GUARD]
+        let guard = GUARD_OCTET.into();
+        before.iter().chain(behind).all(|&entry| entry == guard)
     }
 }
 
@@ -112,7 +125,11 @@ impl Default for Lending {
 pub enum Received {
     Refused(u32),
     Finished,
-    Bundle { length: usize, next: u64 },
+    Bundle {
+        length: usize,
+        next: u64,
+        number: Option<u32>,
+    },
 }
 
 /// The same receiver on both sides.
@@ -184,6 +201,10 @@ impl ReceiverPair {
 
     pub fn image(&self) -> &[u8] {
         &self.image
+    }
+
+    pub fn pool(&self) -> &[u8] {
+        &self.pool
     }
 
     /// The octets of the last bundle, if it had this length.
@@ -351,13 +372,17 @@ impl ReceiverPair {
         }
         trial.coverage.empty_bundles += u64::from(length == 0);
         trial.coverage.full_bundles += u64::from(length == MIN_OUTPUT);
-        Received::Bundle { length, next }
+        Received::Bundle {
+            length,
+            next,
+            number: u32::try_from(result[3]).ok(),
+        }
     }
 
     /// Takes a frame to its end; the bundles go to `sink`.
     pub fn take(&mut self, trial: &mut Trial, frame: &[u8], sink: &mut dyn FnMut(&[u8])) {
         let mut place = 0;
-        while let Received::Bundle { length, next } =
+        while let Received::Bundle { length, next, .. } =
             self.receive(trial, frame, place, Lending::default())
         {
             trial.check(next > place, "the place does not move on");

@@ -3,6 +3,13 @@
 use crate::generate::{Change, RECEIVER_DAMAGE, SENDER_DAMAGE};
 use crate::model::receiver::{Contradiction, Distance, Observer, Phase, Step, CELL};
 
+mod recordings;
+
+pub use recordings::Recordings;
+
+/// Numbers that no call gives.
+pub const NEVER_GIVEN: [usize; 5] = [5, 15, 21, 22, 23];
+
 /// Differences from the greatest number at the edges of the window table.
 pub const EDGES: [u32; 8] = [
     0,
@@ -27,8 +34,9 @@ pub struct Coverage {
     pub receiving_calls: u64,
     pub sending_calls: u64,
     pub starts: u64,
-    /// By number; entry 0 counts the calls that were not refused. 5 is never given.
-    pub refusals: [u64; 15],
+    pub recording_calls: u64,
+    /// By number; entry 0 counts the calls that were not refused.
+    pub refusals: [u64; 25],
     pub distances: [u64; 5],
     pub edges: [u64; EDGES.len()],
     /// New numbers beyond 4,294,967,295.
@@ -61,6 +69,7 @@ pub struct Coverage {
     /// Their changed headers, of types 1 to 5 and of others; and by the bits changed, from the lowest.
     pub reserved_types: [u64; 6],
     pub reserved_bits: [u64; 3],
+    pub recordings: Recordings,
 }
 
 impl Coverage {
@@ -76,7 +85,7 @@ impl Coverage {
     }
 
     pub fn calls(&self) -> u64 {
-        self.receiving_calls + self.sending_calls + self.starts
+        self.receiving_calls + self.sending_calls + self.starts + self.recording_calls
     }
 
     /// Every count of a case with its name.
@@ -88,10 +97,12 @@ impl Coverage {
                 cases.push((format!("{what}: {name}"), count));
             }
         };
-        let numbers: Vec<String> = (0..15).map(|number| number.to_string()).collect();
+        let numbers: Vec<String> = (0..25).map(|number| number.to_string()).collect();
         let numbers: Vec<&str> = numbers.iter().map(String::as_str).collect();
         list("refusal", &numbers[1..5], &self.refusals[1..5]);
-        list("refusal", &numbers[6..], &self.refusals[6..]);
+        list("refusal", &numbers[6..15], &self.refusals[6..15]);
+        list("refusal", &numbers[16..21], &self.refusals[16..21]);
+        list("refusal", &numbers[24..], &self.refusals[24..]);
         list(
             "window",
             &["G absent", "0", "new", "outside", "behind"],
@@ -184,6 +195,7 @@ impl Coverage {
             &["0x10", "0x20", "0x40"],
             &self.reserved_bits,
         );
+        cases.extend(self.recordings.cases());
         cases
     }
 }

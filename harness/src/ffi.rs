@@ -2,11 +2,20 @@
 
 use std::fmt;
 
+mod recording;
+
+pub use recording::{Playback, Recording, RefusedFrame};
+
 pub const RECEIVER_IMAGE: usize = 3144;
 pub const SENDER_IMAGE: usize = 24;
 pub const POOL: usize = 65_536;
 pub const MIN_OUTPUT: usize = 4096;
 pub const NO_NUMBER: u64 = 1 << 32;
+/// What a recording holds at most, and so what is lent to a playback at least: places and reasons for as
+/// many frames, an output of as many octets, and a length for each bundle that may come out.
+pub const RECORDED_FRAMES: usize = 1024;
+pub const RECORDED_OCTETS: usize = 61_440;
+pub const PLAYED_BUNDLES: usize = 15_360;
 
 mod exported {
     extern "C" {
@@ -50,6 +59,37 @@ mod exported {
             state_len: usize,
             frame: *mut u8,
             frame_len: usize,
+            result: *mut u64,
+        ) -> u32;
+        pub fn btpu_record(
+            sizes: *const u16,
+            frames: usize,
+            octets: *const u8,
+            octets_len: usize,
+            output: *mut u8,
+            output_len: usize,
+            result: *mut u64,
+        ) -> u32;
+        pub fn btpu_recording_open(
+            recording: *const u8,
+            recording_len: usize,
+            sizes: *mut u16,
+            result: *mut u64,
+        ) -> u32;
+        pub fn btpu_play(
+            recording: *const u8,
+            recording_len: usize,
+            limit: u64,
+            pool: *mut u8,
+            pool_len: usize,
+            output: *mut u8,
+            output_len: usize,
+            lengths: *mut u16,
+            lengths_len: usize,
+            places: *mut u32,
+            places_len: usize,
+            reasons: *mut u32,
+            reasons_len: usize,
             result: *mut u64,
         ) -> u32;
     }
@@ -125,6 +165,64 @@ pub fn flush(state: &mut [u8], frame: &mut [u8], result: &mut [u64; 4]) -> u32 {
             state.len(),
             frame.as_mut_ptr(),
             frame.len(),
+            result.as_mut_ptr(),
+        )
+    }
+}
+
+pub fn record(sizes: &[u16], octets: &[u8], output: &mut [u8], result: &mut [u64; 4]) -> u32 {
+    unsafe {
+        exported::btpu_record(
+            sizes.as_ptr(),
+            sizes.len(),
+            octets.as_ptr(),
+            octets.len(),
+            output.as_mut_ptr(),
+            output.len(),
+            result.as_mut_ptr(),
+        )
+    }
+}
+
+pub fn recording_open(
+    recording: &[u8],
+    sizes: &mut [u16; RECORDED_FRAMES],
+    result: &mut [u64; 4],
+) -> u32 {
+    unsafe {
+        exported::btpu_recording_open(
+            recording.as_ptr(),
+            recording.len(),
+            sizes.as_mut_ptr(),
+            result.as_mut_ptr(),
+        )
+    }
+}
+
+/// Bundles go to an output and a list of their lengths, refused frames to their places and reasons.
+pub fn play(
+    recording: &[u8],
+    limit: u64,
+    pool: &mut [u8],
+    (output, lengths): (&mut [u8], &mut [u16]),
+    (places, reasons): (&mut [u32], &mut [u32]),
+    result: &mut [u64; 4],
+) -> u32 {
+    unsafe {
+        exported::btpu_play(
+            recording.as_ptr(),
+            recording.len(),
+            limit,
+            pool.as_mut_ptr(),
+            pool.len(),
+            output.as_mut_ptr(),
+            output.len(),
+            lengths.as_mut_ptr(),
+            lengths.len(),
+            places.as_mut_ptr(),
+            places.len(),
+            reasons.as_mut_ptr(),
+            reasons.len(),
             result.as_mut_ptr(),
         )
     }

@@ -6,6 +6,13 @@ use crate::model::receiver::{distance, Distance};
 use crate::model::wire;
 use crate::random::Random;
 
+mod recordings;
+
+pub use recordings::{
+    damage_recording, full_frames, joined, message_count, recorded, recorded_frames, recording,
+    small_frames, unrecordable, UNRECORDABLE,
+};
+
 pub const ROWS: usize = 16;
 pub const ROW_IMAGE: usize = 196;
 const PIECES: usize = 64;

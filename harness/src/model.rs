@@ -1,15 +1,17 @@
-//! Receiver and sender of document 01, as the requests of document 02 leave it, in plain Rust, written
-//! from these papers alone.
+//! Receiver and sender of document 01, as the requests of document 02 leave it, and recordings, in plain
+//! Rust, written from these papers alone.
 //!
 //! The exported interface is compared with this model, and its speed is measured against it.
 
 pub mod image;
 pub mod interface;
+pub mod playback;
 pub mod receiver;
+pub mod recording;
 pub mod sender;
 pub mod wire;
 
-/// The cases of the paper's table of refusals; 5 is never given.
+/// The cases of the papers' refusals; 5 is never given.
 #[derive(Clone, Copy, Debug, PartialEq, Eq)]
 pub enum Refusal {
     UnsoundState,
@@ -23,10 +25,16 @@ pub enum Refusal {
     OtherLength,
     NothingBegun,
     FrameSize,
+    CutShort,
+    CountAboveLimit,
+    RecordedLength,
+    OctetCount,
+    LeftOver,
+    OutputTooShort,
 }
 
 impl Refusal {
-    /// The number in the paper's table.
+    /// The number in the papers.
     pub fn number(self) -> u32 {
         match self {
             Refusal::UnsoundState => 1,
@@ -42,6 +50,12 @@ impl Refusal {
             Refusal::OtherLength => 12,
             Refusal::NothingBegun => 13,
             Refusal::FrameSize => 14,
+            Refusal::CutShort => 16,
+            Refusal::CountAboveLimit => 17,
+            Refusal::RecordedLength => 18,
+            Refusal::OctetCount => 19,
+            Refusal::LeftOver => 20,
+            Refusal::OutputTooShort => 24,
         }
     }
 }

@@ -7,9 +7,11 @@ use crate::generate::{self, OpenRow, SenderEntries, BUNDLE, RECEIVER_DAMAGE, ROW
 use crate::model::receiver::CELL;
 use crate::random::Random;
 
+pub mod recordings;
+
 type Scenario = (&'static str, fn(&mut Trial));
 
-pub const SCENARIOS: [Scenario; 18] = [
+pub const SCENARIOS: [Scenario; 22] = [
     ("honest", honest),
     ("sent", sent),
     ("hostile", hostile),
@@ -28,6 +30,10 @@ pub const SCENARIOS: [Scenario; 18] = [
     ("sound senders", sound_senders),
     ("unsound senders", unsound_senders),
     ("starts", starts),
+    ("recordings", recordings::recordings),
+    ("damaged recordings", recordings::damaged_recordings),
+    ("playbacks", recordings::playbacks),
+    ("full recordings", recordings::full_recordings),
 ];
 
 /// Runs one scenario.

@@ -1,6 +1,6 @@
 //! One interface for the two sides that are compared.
 
-use crate::ffi;
+use crate::ffi::{self, RECORDED_FRAMES};
 use crate::model::interface;
 
 pub trait Side {
@@ -18,6 +18,20 @@ pub trait Side {
     fn place(state: &mut [u8], bundle: &[u8], frame: &mut [u8], result: &mut [u64; 4]) -> u32;
     fn cancel(state: &mut [u8], frame: &mut [u8], result: &mut [u64; 4]) -> u32;
     fn flush(state: &mut [u8], frame: &mut [u8], result: &mut [u64; 4]) -> u32;
+    fn record(sizes: &[u16], octets: &[u8], output: &mut [u8], result: &mut [u64; 4]) -> u32;
+    fn recording_open(
+        recording: &[u8],
+        sizes: &mut [u16; RECORDED_FRAMES],
+        result: &mut [u64; 4],
+    ) -> u32;
+    fn play(
+        recording: &[u8],
+        limit: u64,
+        pool: &mut [u8],
+        bundles: (&mut [u8], &mut [u16]),
+        notes: (&mut [u32], &mut [u32]),
+        result: &mut [u64; 4],
+    ) -> u32;
 }
 
 pub struct Model;
@@ -56,6 +70,29 @@ impl Side for Model {
     fn flush(state: &mut [u8], frame: &mut [u8], result: &mut [u64; 4]) -> u32 {
         interface::flush(state, frame, result)
     }
+
+    fn record(sizes: &[u16], octets: &[u8], output: &mut [u8], result: &mut [u64; 4]) -> u32 {
+        interface::record(sizes, octets, output, result)
+    }
+
+    fn recording_open(
+        recording: &[u8],
+        sizes: &mut [u16; RECORDED_FRAMES],
+        result: &mut [u64; 4],
+    ) -> u32 {
+        interface::recording_open(recording, sizes, result)
+    }
+
+    fn play(
+        recording: &[u8],
+        limit: u64,
+        pool: &mut [u8],
+        bundles: (&mut [u8], &mut [u16]),
+        notes: (&mut [u32], &mut [u32]),
+        result: &mut [u64; 4],
+    ) -> u32 {
+        interface::play(recording, limit, pool, bundles, notes, result, &mut ())
+    }
 }
 
 impl Side for Exported {
@@ -90,5 +127,28 @@ impl Side for Exported {
 
     fn flush(state: &mut [u8], frame: &mut [u8], result: &mut [u64; 4]) -> u32 {
         ffi::flush(state, frame, result)
+    }
+
+    fn record(sizes: &[u16], octets: &[u8], output: &mut [u8], result: &mut [u64; 4]) -> u32 {
+        ffi::record(sizes, octets, output, result)
+    }
+
+    fn recording_open(
+        recording: &[u8],
+        sizes: &mut [u16; RECORDED_FRAMES],
+        result: &mut [u64; 4],
+    ) -> u32 {
+        ffi::recording_open(recording, sizes, result)
+    }
+
+    fn play(
+        recording: &[u8],
+        limit: u64,
+        pool: &mut [u8],
+        bundles: (&mut [u8], &mut [u16]),
+        notes: (&mut [u32], &mut [u32]),
+        result: &mut [u64; 4],
+    ) -> u32 {
+        ffi::play(recording, limit, pool, bundles, notes, result)
     }
 }

@@ -1,12 +1,12 @@
-//! The C example, compiled with the public header, linked with the library and run.
+//! Programs in C, compiled with the public header, linked with the library and run.
 
 use std::path::Path;
 use std::process::Command;
 
-#[test]
-fn sends_and_receives() {
+/// Compiles a program of the repository and runs it; the answer is what it prints.
+fn run(source: &str, name: &str) -> String {
     let root = Path::new(env!("CARGO_MANIFEST_DIR")).join("..");
-    let program = Path::new(env!("CARGO_TARGET_TMPDIR")).join("send_receive");
+    let program = Path::new(env!("CARGO_TARGET_TMPDIR")).join(name);
     let compiled = Command::new("cc")
         .args([
             "-std=c99",
@@ -16,7 +16,9 @@ fn sends_and_receives() {
             "-pedantic",
             "-O1",
         ])
-        .arg(root.join("examples/c/send_receive.c"))
+        .arg("-I")
+        .arg(root.join("include"))
+        .arg(root.join(source))
         .arg(root.join("target/staticlib/libboard.a"))
         .args(["-lpthread", "-ldl", "-lm", "-o"])
         .arg(&program)
@@ -26,9 +28,24 @@ fn sends_and_receives() {
     assert!(compiled.status.success(), "{messages}");
     let ran = Command::new(&program).output().expect("the program starts");
     let messages = String::from_utf8_lossy(&ran.stderr);
-    assert!(ran.status.success(), "{messages}");
+    let printed = String::from_utf8_lossy(&ran.stdout);
+    assert!(ran.status.success(), "{printed}{messages}");
+    printed.into_owned()
+}
+
+#[test]
+fn sends_and_receives() {
     assert_eq!(
-        String::from_utf8_lossy(&ran.stdout),
+        run("examples/c/send_receive.c", "send_receive"),
         "bundle of 3000 octets received through 6 frames of 512 octets\n"
     );
+}
+
+/// The program fails where a playback takes more of the stack than the header says.
+#[test]
+fn plays_within_its_stack() {
+    let printed = run("harness/tests/play_stack.c", "play_stack");
+    let used: usize = printed.trim().parse().expect("a number of octets");
+    println!("a playback takes {used} octets of the stack");
+    assert!(used > 65_536, "its buffer alone takes 65,536 octets");
 }

@@ -1,14 +1,15 @@
 //! Generated calls on the model and the exported interface, compared octet for octet.
 
 use harness::compare::Trial;
-use harness::coverage::Coverage;
-use harness::scenario::{self, SCENARIOS};
+use harness::coverage::{Coverage, NEVER_GIVEN};
+use harness::scenario::{self, recordings, SCENARIOS};
 
 const SEED: u64 = 2_048;
 const ROUNDS: u64 = 1_000;
 
-/// No case may be reached less often.
+/// No case may be reached less often, and none of those that cost time.
 const FLOOR: u64 = 200;
+const FLOOR_OF_EXTREMES: u64 = 40;
 
 #[test]
 fn every_scenario_agrees_and_every_case_is_reached() {
@@ -19,23 +20,31 @@ fn every_scenario_agrees_and_every_case_is_reached() {
         rounds <= ROUNDS
     });
     assert_eq!(coverage.scenarios, ROUNDS * SCENARIOS.len() as u64);
-    for (case, count) in coverage.cases() {
+    let extremes = coverage.recordings.extremes();
+    for (case, count) in coverage.cases().iter().chain(&extremes) {
         println!("{count:>9} {case}");
     }
     println!(
-        "{} calls: {} receiving, {} sending, {} starts",
+        "{} calls: {} receiving, {} sending, {} starts, {} for recordings",
         coverage.calls(),
         coverage.receiving_calls,
         coverage.sending_calls,
-        coverage.starts
+        coverage.starts,
+        coverage.recording_calls
     );
     for (case, count) in coverage.cases() {
         assert!(count >= FLOOR, "{case}: only {count}");
     }
-    assert_eq!(coverage.refusals[5], 0);
+    for (case, count) in extremes {
+        assert!(count >= FLOOR_OF_EXTREMES, "{case}: only {count}");
+    }
+    for number in NEVER_GIVEN {
+        assert_eq!(coverage.refusals[number], 0);
+    }
     assert!(coverage.receiving_calls >= 120_000);
     assert!(coverage.sending_calls >= 60_000);
-    assert!(coverage.calls() >= 200_000);
+    assert!(coverage.recording_calls >= 40_000);
+    assert!(coverage.calls() >= 240_000);
     assert_eq!(coverage.refusals.iter().sum::<u64>(), coverage.calls());
 }
 
@@ -57,6 +66,44 @@ fn every_type_with_every_reserved_bit() {
     let mut trial = Trial::new("every type", SEED, &mut coverage);
     scenario::reserved_bits_of_every_type(&mut trial);
     assert_eq!(coverage.receiving_calls, 255 * 2 * 8);
+}
+
+/// Runs a trial with so many seeds and answers what it reached.
+fn repeated(name: &'static str, times: u64, trial: fn(&mut Trial)) -> Coverage {
+    let mut coverage = Coverage::default();
+    for seed in 0..times {
+        trial(&mut Trial::new(name, SEED + seed, &mut coverage));
+    }
+    println!("{name}: {} calls for recordings", coverage.recording_calls);
+    coverage
+}
+
+#[test]
+fn every_beginning_of_some_recordings() {
+    let coverage = repeated("every beginning", 20, recordings::every_beginning);
+    assert!(coverage.refusals[16] >= 2_000);
+    assert!(coverage.recordings.opened >= 20);
+}
+
+#[test]
+fn every_bit_of_some_recordings() {
+    let coverage = repeated("every bit", 8, recordings::every_bit);
+    assert!(coverage.recording_calls >= 8_000);
+}
+
+#[test]
+fn every_limit_of_some_recordings() {
+    let coverage = repeated("every limit", 60, recordings::every_limit);
+    assert_eq!(coverage.recordings.taken_singly, 60);
+    assert!(coverage.recording_calls >= 3_000);
+}
+
+#[test]
+fn full_recordings_by_single_calls() {
+    let coverage = repeated("full by single calls", 8, recordings::full_by_single_calls);
+    for (case, count) in coverage.recordings.extremes() {
+        assert!(count >= 1, "{case}: none");
+    }
 }
 
 #[test]

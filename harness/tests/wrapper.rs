@@ -1,6 +1,8 @@
 //! The safe wrapper: the paper's marked cases, and what it answers otherwise.
 
-use harness::ffi::{Received, Receiver, Refused, Sender, Sent, MIN_OUTPUT};
+use harness::ffi::{
+    Received, Receiver, Recording, Refused, RefusedFrame, Sender, Sent, MIN_OUTPUT,
+};
 
 fn bundle(length: usize, next: u64, number: Option<u32>) -> Result<Received, Refused> {
     Ok(Received::Bundle {
@@ -97,4 +99,50 @@ fn pieces_by_program() {
     assert_eq!(sender.cancel().unwrap_err().number, 13);
     assert_eq!(sender.flush(), Ok(Sent::Ready));
     assert_eq!(Sender::start(127, 0).err().unwrap().number, 14);
+}
+
+#[test]
+fn recordings() {
+    let frames: [&[u8]; 4] = [
+        &[2, 0, 0, 2, 0x41, 0x42],
+        &[2, 0, 0, 9],
+        &[3, 0, 0, 9, 0, 0, 0, 5, 0, 0, 0, 0, 0x43, 0],
+        &[4, 0, 0, 9, 0, 0, 0, 5, 0, 0, 0, 1, 0x44],
+    ];
+    let octets = Recording::write(frames).unwrap();
+    let recording = Recording::open(&octets).unwrap();
+    assert_eq!(recording.frames().len(), 4);
+    assert!(recording.frames().eq(frames));
+    assert_eq!(Recording::write(recording.frames()), Ok(octets.clone()));
+
+    let playback = recording.play(u64::MAX);
+    assert_eq!(playback.messages, 4);
+    assert!(playback.bundles().eq([b"AB", b"CD"]));
+    let bad_length = RefusedFrame {
+        place: 1,
+        number: 6,
+    };
+    assert_eq!(playback.refused, [bad_length]);
+
+    let begun = recording.play(3);
+    assert_eq!(begun.messages, 3);
+    assert!(begun.bundles().eq([b"AB"]));
+    assert_eq!(begun.refused, [bad_length]);
+    assert_eq!(recording.play(1).refused, []);
+    assert_eq!(recording.play(0).bundles().len(), 0);
+}
+
+#[test]
+fn refused_recordings() {
+    let written = |frames: &[Vec<u8>]| Recording::write(frames).unwrap_err().number;
+    assert_eq!(written(&vec![vec![0]; 1025]), 17);
+    assert_eq!(written(&[vec![0; 70_000]]), 17);
+    assert_eq!(written(&[vec![]]), 18);
+    let octets = Recording::write([[0]]).unwrap();
+    let opened = |octets: &[u8]| Recording::open(octets).err();
+    let refused = |number| Some(Refused { number, at: None });
+    assert_eq!(opened(&octets), None);
+    assert_eq!(opened(&octets[2..]), refused(17));
+    assert_eq!(opened(&octets[..4]), refused(16));
+    assert_eq!(opened(&[&octets[..], &[0]].concat()), refused(20));
 }

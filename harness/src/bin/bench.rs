@@ -2,13 +2,16 @@
 //!
 //!     bench [ROUNDS]
 //!
-//! Each round times the three sides one after the other, in changing order; the table gives the
-//! median time per call, and the median over the rounds of the ratios within a round.
+//! Each round times the sides one after the other, in changing order; the tables give the median
+//! time per call, and the median over the rounds of the ratios within a round.
 
 use std::hint::black_box;
 use std::time::Instant;
 
-use harness::ffi::{self, MIN_OUTPUT, POOL, RECEIVER_IMAGE, SENDER_IMAGE};
+use harness::ffi::{
+    self, MIN_OUTPUT, PLAYED_BUNDLES, POOL, RECEIVER_IMAGE, RECORDED_FRAMES, RECORDED_OCTETS,
+    SENDER_IMAGE,
+};
 use harness::generate::{self, BUNDLE};
 use harness::model::{interface, receiver, sender};
 use harness::random::Random;
@@ -35,11 +38,22 @@ impl Work {
     }
 }
 
+/// Does the work of one side once.
+type Side<'a> = Box<dyn FnMut() -> Work + 'a>;
+
+/// A workload of three sides: exported, the model on its own state, the model behind an image.
 struct Workload<'a> {
     name: &'static str,
-    exported: Box<dyn FnMut() -> Work + 'a>,
-    own_state: Box<dyn FnMut() -> Work + 'a>,
-    image: Box<dyn FnMut() -> Work + 'a>,
+    exported: Side<'a>,
+    own_state: Side<'a>,
+    image: Side<'a>,
+}
+
+/// A workload of calls that have no state: exported, and the model.
+struct RecordingWorkload<'a> {
+    name: &'static str,
+    exported: Side<'a>,
+    model: Side<'a>,
 }
 
 fn main() {
@@ -98,27 +112,82 @@ fn main() {
     for workload in workloads {
         measure(workload, rounds);
     }
+    measure_recordings(&mut random, rounds);
 }
 
-fn measure(mut workload: Workload, rounds: usize) {
-    let work = (workload.exported)();
-    assert!(work.calls > 0, "{}: no call", workload.name);
-    assert_eq!(work, (workload.own_state)(), "{}", workload.name);
-    assert_eq!(work, (workload.image)(), "{}", workload.name);
-    let sides = [
-        &mut workload.exported,
-        &mut workload.own_state,
-        &mut workload.image,
+/// A second table: calls for recordings, each of 61,440 octets of frames.
+fn measure_recordings(random: &mut Random, rounds: usize) {
+    let short = recorded_bundles(random);
+    let long = recorded_transfers(random);
+    let empty = generate::message(BUNDLE, &[], &[]);
+    let dense = vec![empty.repeat(FRAME / empty.len()); RECORDED_OCTETS / FRAME];
+    for frames in [&short, &long, &dense] {
+        assert_eq!(frames.concat().len(), RECORDED_OCTETS);
+    }
+    let workloads = [
+        recording("record: 1,024 frames of 60 octets", &short),
+        recording("record: 30 frames of 2,048 octets", &long),
+        opening("open: 1,024 frames of 60 octets", &short),
+        opening("open: 30 frames of 2,048 octets", &long),
+        playing("play: 1,024 frames of one bundle of 56 octets", &short),
+        playing("play: 30 frames of one piece of 2,036 octets", &long),
+        playing("play: 30 frames of 512 empty bundles", &dense),
     ];
+    println!();
+    println!("| workload | exported, ns/call | Rust, ns/call | ratio |");
+    println!("|---|---:|---:|---:|");
+    for workload in workloads {
+        measure_recording(workload, rounds);
+    }
+}
+
+fn measure(workload: Workload, rounds: usize) {
+    let sides = [workload.exported, workload.own_state, workload.image];
+    let (calls, times) = timed(workload.name, sides, rounds);
+    println!(
+        "| {} | {} | {:.0} | {:.0} | {:.0} | {:.2} | {:.2} |",
+        workload.name,
+        calls,
+        median(times[0].clone()),
+        median(times[1].clone()),
+        median(times[2].clone()),
+        ratio(&times[0], &times[1]),
+        ratio(&times[0], &times[2])
+    );
+}
+
+fn measure_recording(workload: RecordingWorkload, rounds: usize) {
+    let sides = [workload.exported, workload.model];
+    let (_, times) = timed(workload.name, sides, rounds);
+    println!(
+        "| {} | {:.0} | {:.0} | {:.2} |",
+        workload.name,
+        median(times[0].clone()),
+        median(times[1].clone()),
+        ratio(&times[0], &times[1])
+    );
+}
+
+/// The number of calls of a run, and for each side the time per call in each round.
+fn timed<const SIDES: usize>(
+    name: &str,
+    mut sides: [Side; SIDES],
+    rounds: usize,
+) -> (u64, [Vec<f64>; SIDES]) {
+    let work = sides[0]();
+    assert!(work.calls > 0, "{name}: no call");
+    for side in &mut sides[1..] {
+        assert_eq!(work, side(), "{name}");
+    }
     let begin = Instant::now();
     black_box(sides[1]());
     let once = begin.elapsed().as_secs_f64().max(1e-7);
     let repeat = (ROUND_SECONDS / once).ceil().max(1.0) as u32;
     let calls = work.calls as f64 * f64::from(repeat);
-    let mut times = [(); 3].map(|_| Vec::with_capacity(rounds));
+    let mut times = [(); SIDES].map(|_| Vec::with_capacity(rounds));
     for round in 0..rounds {
-        for turn in 0..3 {
-            let side = (round + turn) % 3;
+        for turn in 0..SIDES {
+            let side = (round + turn) % SIDES;
             let begin = Instant::now();
             for _ in 0..repeat {
                 black_box(sides[side]());
@@ -126,20 +195,12 @@ fn measure(mut workload: Workload, rounds: usize) {
             times[side].push(begin.elapsed().as_nanos() as f64 / calls);
         }
     }
-    let ratios = |other: usize| {
-        let pairs = times[0].iter().zip(&times[other]);
-        median(pairs.map(|(exported, rust)| exported / rust).collect())
-    };
-    println!(
-        "| {} | {} | {:.0} | {:.0} | {:.0} | {:.2} | {:.2} |",
-        workload.name,
-        work.calls,
-        median(times[0].clone()),
-        median(times[1].clone()),
-        median(times[2].clone()),
-        ratios(1),
-        ratios(2)
-    );
+    (work.calls, times)
+}
+
+fn ratio(exported: &[f64], rust: &[f64]) -> f64 {
+    let pairs = exported.iter().zip(rust);
+    median(pairs.map(|(exported, rust)| exported / rust).collect())
 }
 
 fn median(mut numbers: Vec<f64>) -> f64 {
@@ -214,20 +275,23 @@ fn full_image(random: &mut Random) -> [u8; RECEIVER_IMAGE] {
     image
 }
 
-/// A pool and an output, each at the start of a page, so that all sides have them placed alike.
-fn lent(octets: &[u8]) -> (&'static mut [u8], &'static mut [u8]) {
+/// Octets, as of a pool, and an output, each at the start of a page, so that all sides have them placed
+/// alike.
+fn lent(octets: &[u8], output: usize) -> (&'static mut [u8], &'static mut [u8]) {
     const PAGE: usize = 4096;
-    let memory = vec![0; PAGE + POOL + MIN_OUTPUT].leak();
+    let pages = octets.len().next_multiple_of(PAGE);
+    let memory = vec![0; PAGE + pages + output].leak();
     let start = memory.as_ptr().align_offset(PAGE);
-    let (pool, behind) = memory[start..].split_at_mut(POOL);
-    pool.copy_from_slice(octets);
-    (pool, &mut behind[..MIN_OUTPUT])
+    let (front, behind) = memory[start..].split_at_mut(pages);
+    let front = &mut front[..octets.len()];
+    front.copy_from_slice(octets);
+    (front, &mut behind[..output])
 }
 
 fn receiving<'a>(name: &'static str, reception: &'a Reception) -> Workload<'a> {
     type Call = fn(&mut [u8], &mut [u8], &[u8], u64, &mut [u8], &mut [u64; 4]) -> u32;
     let through_image = move |call: Call| {
-        let (pool, output) = lent(&reception.pool);
+        let (pool, output) = lent(&reception.pool, MIN_OUTPUT);
         move || {
             let mut work = Work::default();
             let mut image = reception.image;
@@ -252,7 +316,7 @@ fn receiving<'a>(name: &'static str, reception: &'a Reception) -> Workload<'a> {
         }
     };
     let state = receiver::State::decode(&reception.image).expect("a state");
-    let (pool, output) = lent(&reception.pool);
+    let (pool, output) = lent(&reception.pool, MIN_OUTPUT);
     let own_state = move || {
         let mut work = Work::default();
         let mut state = state.clone();
@@ -339,6 +403,79 @@ fn sending<'a>(name: &'static str, frame_size: u64, bundles: &'a [Vec<u8>]) -> W
     }
 }
 
+fn recording<'a>(name: &'static str, frames: &[Vec<u8>]) -> RecordingWorkload<'a> {
+    type Call = fn(&[u16], &[u8], &mut [u8], &mut [u64; 4]) -> u32;
+    let side = |call: Call| {
+        let (sizes, octets) = generate::joined(frames);
+        let (octets, output) = lent(&octets, 8 + 2 * sizes.len() + octets.len());
+        move || {
+            let mut work = Work::default();
+            let mut result = [0; 4];
+            assert_eq!(call(&sizes, octets, output, &mut result), 0);
+            work.calls += 1;
+            work.bundle(&output[..result[0] as usize]);
+            work
+        }
+    };
+    RecordingWorkload {
+        name,
+        exported: Box::new(side(ffi::record)),
+        model: Box::new(side(interface::record)),
+    }
+}
+
+fn opening<'a>(name: &'static str, frames: &[Vec<u8>]) -> RecordingWorkload<'a> {
+    type Call = fn(&[u8], &mut [u16; RECORDED_FRAMES], &mut [u64; 4]) -> u32;
+    let side = |call: Call| {
+        let (recording, _) = lent(&generate::recorded(frames), 0);
+        let mut sizes = [0; RECORDED_FRAMES];
+        move || {
+            let mut work = Work::default();
+            let mut result = [0; 4];
+            assert_eq!(call(recording, &mut sizes, &mut result), 0);
+            work.calls += 1;
+            work.digest = result[2] + u64::from(sizes[0]);
+            work
+        }
+    };
+    RecordingWorkload {
+        name,
+        exported: Box::new(side(ffi::recording_open)),
+        model: Box::new(side(interface::recording_open)),
+    }
+}
+
+fn playing<'a>(name: &'static str, frames: &[Vec<u8>]) -> RecordingWorkload<'a> {
+    type Bundles<'b> = (&'b mut [u8], &'b mut [u16]);
+    type Notes<'b> = (&'b mut [u32], &'b mut [u32]);
+    type Call = fn(&[u8], u64, &mut [u8], Bundles, Notes, &mut [u64; 4]) -> u32;
+    let side = |call: Call| {
+        let (recording, _) = lent(&generate::recorded(frames), 0);
+        let (pool, output) = lent(&[0; POOL], RECORDED_OCTETS);
+        let mut lengths = [0; PLAYED_BUNDLES];
+        let mut places = [0; RECORDED_FRAMES];
+        let mut reasons = [0; RECORDED_FRAMES];
+        move || {
+            let mut work = Work::default();
+            let mut result = [0; 4];
+            let bundles: Bundles = (output, &mut lengths);
+            let notes: Notes = (&mut places, &mut reasons);
+            let number = call(recording, u64::MAX, pool, bundles, notes, &mut result);
+            assert_eq!((number, result[3]), (0, 0));
+            work.calls += 1;
+            work.bundle(&output[..result[2] as usize]);
+            work
+        }
+    };
+    RecordingWorkload {
+        name,
+        exported: Box::new(side(ffi::play)),
+        model: Box::new(side(|recording, limit, pool, bundles, notes, result| {
+            interface::play(recording, limit, pool, bundles, notes, result, &mut ())
+        })),
+    }
+}
+
 fn bundles(random: &mut Random, count: usize, length: usize) -> Vec<Vec<u8>> {
     (0..count).map(|_| random.octets(length)).collect()
 }
@@ -394,4 +531,20 @@ fn hint_frames(random: &mut Random) -> Vec<Vec<u8>> {
         let hints = [0x01, 2, 7, 7, 0x03, 0, 0x04, 4, 1, 2, 3, 4];
         generate::piece(at % 8, 1 + at / 8 % 60, false, &hints, &random.octets(4))
     }))
+}
+
+/// Frames of 60 octets with one bundle message each.
+fn recorded_bundles(random: &mut Random) -> Vec<Vec<u8>> {
+    let bundles = bundles(random, RECORDED_FRAMES, 56);
+    let frames = bundles.iter();
+    frames
+        .map(|bundle| generate::message(BUNDLE, &[], bundle))
+        .collect()
+}
+
+/// Frames of one piece each, two to a transfer.
+fn recorded_transfers(random: &mut Random) -> Vec<Vec<u8>> {
+    let mut frames = large_piece_frames(random);
+    frames.truncate(RECORDED_OCTETS / FRAME);
+    frames
 }

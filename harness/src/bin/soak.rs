@@ -69,7 +69,8 @@ fn soak(by_calls: bool, amount: u64, seed: u64) {
             elapsed.as_secs() < amount
         }
     });
-    for (case, count) in coverage.cases() {
+    let extremes = coverage.recordings.extremes();
+    for (case, count) in coverage.cases().iter().chain(&extremes) {
         println!("{count:>12} {case}");
     }
     println!(

@@ -1,6 +1,8 @@
 //! The model behind the same interface as the exported library: images in, numbers out.
 
+use super::playback::{self, Bundles, Notes};
 use super::receiver::{self, Observer};
+use super::recording::{self, Recording, MAX_FRAMES};
 use super::sender::{self, Answer};
 use super::{image, Refusal};
 
@@ -98,6 +100,60 @@ fn send(
             };
             let image: &mut [u8; image::SENDER] = image.try_into().expect("it was decoded");
             state.encode(image);
+            0
+        }
+        Err(refusal) => refusal.number(),
+    }
+}
+
+pub fn record(sizes: &[u16], octets: &[u8], output: &mut [u8], result: &mut [u64; 4]) -> u32 {
+    match recording::write(sizes, octets, output) {
+        Ok(length) => {
+            result[0] = length as u64;
+            0
+        }
+        Err(refusal) => refusal.number(),
+    }
+}
+
+pub fn recording_open(
+    recording: &[u8],
+    sizes: &mut [u16; MAX_FRAMES],
+    result: &mut [u64; 4],
+) -> u32 {
+    match Recording::read(recording) {
+        Ok(recording) => {
+            let lengths = recording.lengths();
+            result[0] = lengths.len() as u64;
+            result[1] = recording.octets().len() as u64;
+            result[2] = recording.start() as u64;
+            sizes.fill(0);
+            for (size, length) in sizes.iter_mut().zip(lengths) {
+                *size = length;
+            }
+            0
+        }
+        Err(refusal) => refusal.number(),
+    }
+}
+
+pub fn play(
+    recording: &[u8],
+    limit: u64,
+    pool: &mut [u8],
+    bundles: Bundles,
+    notes: Notes,
+    result: &mut [u64; 4],
+    observer: &mut impl Observer,
+) -> u32 {
+    match playback::play(recording, limit, pool, bundles, notes, observer) {
+        Ok(played) => {
+            *result = [
+                played.messages,
+                played.bundles as u64,
+                played.octets as u64,
+                played.refused as u64,
+            ];
             0
         }
         Err(refusal) => refusal.number(),

@@ -269,6 +269,41 @@ impl State {
         }
         Some(row)
     }
+
+    /// Treats one message. A bundle that it hands out is put into the output; the answer is its length
+    /// and its transfer number. Always inline, as `wire::read` is.
+    #[inline(always)]
+    pub fn treat(
+        &mut self,
+        message: Message,
+        pool: &mut [u8],
+        output: &mut [u8],
+        observer: &mut impl Observer,
+    ) -> Option<(usize, Option<u32>)> {
+        match message {
+            Message::Passed => {}
+            Message::Bundle(content) => {
+                output[..content.len()].copy_from_slice(content);
+                return Some((content.len(), None));
+            }
+            Message::Cancel(number) => {
+                if let Some(row) = self.enter(number, observer) {
+                    observer.cancel(self.rows[row].phase);
+                    self.rows[row].cancel();
+                }
+            }
+            Message::Piece(piece) => {
+                let row = self.enter(piece.number, observer)?;
+                let cell = &mut pool[CELL * row..CELL * (row + 1)];
+                let step = self.rows[row].take(cell, &piece, output, observer);
+                observer.step(step);
+                if let Step::Completed(length) = step {
+                    return Some((length, Some(piece.number)));
+                }
+            }
+        }
+        None
+    }
 }
 
 /// The window table for a number `difference` ahead of the greatest, modulo 2^32.
@@ -309,36 +344,12 @@ pub fn receive(
         let Ok((message, next)) = wire::read(frame, at) else {
             unreachable!("the whole frame was checked");
         };
-        match message {
-            Message::Passed => {}
-            Message::Bundle(content) => {
-                output[..content.len()].copy_from_slice(content);
-                return Ok(Answer::Bundle {
-                    length: content.len(),
-                    next,
-                    number: None,
-                });
-            }
-            Message::Cancel(number) => {
-                if let Some(row) = state.enter(number, observer) {
-                    observer.cancel(state.rows[row].phase);
-                    state.rows[row].cancel();
-                }
-            }
-            Message::Piece(piece) => {
-                if let Some(row) = state.enter(piece.number, observer) {
-                    let cell = &mut pool[CELL * row..CELL * (row + 1)];
-                    let step = state.rows[row].take(cell, &piece, output, observer);
-                    observer.step(step);
-                    if let Step::Completed(length) = step {
-                        return Ok(Answer::Bundle {
-                            length,
-                            next,
-                            number: Some(piece.number),
-                        });
-                    }
-                }
-            }
+        if let Some((length, number)) = state.treat(message, pool, output, observer) {
+            return Ok(Answer::Bundle {
+                length,
+                next,
+                number,
+            });
         }
         at = next;
     }

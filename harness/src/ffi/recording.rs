@@ -1,0 +1,121 @@
+//! Recordings for Rust programs: written, opened and played.
+
+use super::{Refused, PLAYED_BUNDLES, POOL, RECORDED_FRAMES, RECORDED_OCTETS};
+
+/// A recording that was opened.
+#[derive(Clone, Debug)]
+pub struct Recording<'a> {
+    recording: &'a [u8],
+    sizes: Vec<u16>,
+    octets: &'a [u8],
+}
+
+impl<'a> Recording<'a> {
+    /// A recording of these frames, in this order.
+    pub fn write<F: AsRef<[u8]>>(frames: impl IntoIterator<Item = F>) -> Result<Vec<u8>, Refused> {
+        let mut sizes = Vec::new();
+        let mut octets = Vec::new();
+        for frame in frames {
+            // A frame with a length beyond 16 bits is refused: it has too many octets.
+            sizes.push(u16::try_from(frame.as_ref().len()).unwrap_or(u16::MAX));
+            octets.extend_from_slice(frame.as_ref());
+        }
+        let mut recording = vec![0; 8 + 2 * sizes.len() + octets.len()];
+        let mut result = [0; 4];
+        accepted(super::record(&sizes, &octets, &mut recording, &mut result))?;
+        Ok(recording)
+    }
+
+    pub fn open(recording: &'a [u8]) -> Result<Recording<'a>, Refused> {
+        let mut sizes = [0; RECORDED_FRAMES];
+        let mut result = [0; 4];
+        accepted(super::recording_open(recording, &mut sizes, &mut result))?;
+        let [frames, octets, start, _] = result.map(|entry| entry as usize);
+        Ok(Recording {
+            recording,
+            sizes: sizes[..frames].to_vec(),
+            octets: &recording[start..start + octets],
+        })
+    }
+
+    pub fn frames(&self) -> impl ExactSizeIterator<Item = &'a [u8]> + '_ {
+        parts(self.octets, &self.sizes)
+    }
+
+    /// Plays the recording on a fresh receiver until `limit` messages are treated, or to its end.
+    pub fn play(&self, limit: u64) -> Playback {
+        let mut octets = vec![0; RECORDED_OCTETS];
+        let mut lengths = vec![0; PLAYED_BUNDLES];
+        let mut places = [0; RECORDED_FRAMES];
+        let mut reasons = [0; RECORDED_FRAMES];
+        let mut result = [0; 4];
+        let number = super::play(
+            self.recording,
+            limit,
+            &mut vec![0; POOL],
+            (&mut octets, &mut lengths),
+            (&mut places, &mut reasons),
+            &mut result,
+        );
+        assert_eq!(number, 0, "it was opened, and all that is lent suffices");
+        let [_, bundles, joined, refused] = result.map(|entry| entry as usize);
+        octets.truncate(joined);
+        lengths.truncate(bundles);
+        let notes = places.into_iter().zip(reasons).take(refused);
+        Playback {
+            messages: result[0],
+            octets,
+            lengths,
+            refused: notes
+                .map(|(place, number)| RefusedFrame {
+                    place: place as usize,
+                    number,
+                })
+                .collect(),
+        }
+    }
+}
+
+/// What came out of a playback.
+#[derive(Clone, Debug, PartialEq, Eq)]
+pub struct Playback {
+    /// The number of messages treated.
+    pub messages: u64,
+    octets: Vec<u8>,
+    lengths: Vec<u16>,
+    /// The frames that were looked at and refused, in order.
+    pub refused: Vec<RefusedFrame>,
+}
+
+/// A frame's place in the recording, from 0, and the number of its refusal.
+#[derive(Clone, Copy, Debug, PartialEq, Eq)]
+pub struct RefusedFrame {
+    pub place: usize,
+    pub number: u32,
+}
+
+impl Playback {
+    /// The bundles in the order in which they were handed out.
+    pub fn bundles(&self) -> impl ExactSizeIterator<Item = &[u8]> {
+        parts(&self.octets, &self.lengths)
+    }
+}
+
+/// Octets cut into parts of these lengths.
+fn parts<'a, 's>(
+    mut octets: &'a [u8],
+    lengths: &'s [u16],
+) -> impl ExactSizeIterator<Item = &'a [u8]> + use<'a, 's> {
+    lengths.iter().map(move |&length| {
+        let (part, behind) = octets.split_at(length.into());
+        octets = behind;
+        part
+    })
+}
+
+fn accepted(number: u32) -> Result<(), Refused> {
+    match number {
+        0 => Ok(()),
+        number => Err(Refused { number, at: None }),
+    }
+}
