@@ -2,27 +2,29 @@
 use mathlib.Core.Bool.{Bool, true, false, _&&_}
 use mathlib.Core.List.{List, [], _∷_}
 use mathlib.Core.Logic.{_⊎_, inl, inr}
+use mathlib.Core.Option.{Option, none, some}
 use mathlib.Core.Path.{_≡_, refl, sym, _∙_}
 use Prim.Native.Nat.{ℕ, _+_, _-_, _≤_, _<_}
 use native.Mathlib.Numerals.{add-one}
 use native.Mathlib.Omega.{arith}
-use lib.Dec.{ltb, eqb}
+use lib.Dec.{ltb}
 use lib.ListN.{length, getD, take, drop, length-set, length-drop, drop-of-length-le}
 use lib.Seq.{drop-cons, drop-drop, length-take-le}
-use borrow.Author.Tests.{ltb-true, ltb-false}
+use borrow.Author.Tests.{lt-ltb, le-ltb, ltb-true, ltb-false}
 use Rattle.octets.specs.Octets.{sumOf}
-use Rattle.octets.proofs.Flags.{bool, both, cond-elim}
+use Rattle.octets.proofs.Flags.{bool, both}
 use Rattle.window.specs.Window.{windowSize}
-use Rattle.rows.specs.Message.{draft02}
+use Rattle.rows.specs.Message.{draft02, messagesFrom}
 use Rattle.messages.specs.declared.Limits.{Limits}
-use Rattle.messages.specs.Run.{Run, roomy, Able}
-use Rattle.frames.specs.Frames.{framesOf, Taking, Reach, entered, counted, noted, within, takes, through}
+use Rattle.messages.specs.Run.{Run, roomy, run, Able}
+use Rattle.receiver.specs.declared.Refusal.{Refusal}
+use Rattle.receiver.specs.Receive.{numberOf, unfit}
+use Rattle.receiver.proofs.Refusals.{number-some, Fit, fit}
+use Rattle.frames.specs.Frames.{framesOf, Reach, noted, passed, within, through}
 
-length-entered : (reason k x : ℕ) (xs : List ℕ) → length (entered reason k x xs) ≡ length xs
-length-entered reason k x xs = cond-elim (λ (ys : List ℕ). length ys ≡ length xs) (eqb reason 0) (λ _. refl) (λ _. length-set xs k x)
-
-counted-few : (reason n k : ℕ) → n ≤ k → counted reason n ≤ k + 1
-counted-few reason n k h = cond-elim (λ (m : ℕ). m ≤ k + 1) (eqb reason 0) (λ _. omega arith) (λ _. omega arith)
+unrefused : (q : Option Refusal) → numberOf q ≤ 0 → q ≡ none
+unrefused none le = refl
+unrefused (some q) le = absurd (omega (arith, number-some q))
 
 abbrev ableIn : Run → Type 0
 ableIn r = Able (r .board .state) (r .board .pool) (r .output) (r .progress)
@@ -51,7 +53,7 @@ abbrev pub goesOn : Limits → List ℕ → ℕ → Reach → Bool
 goesOn limits sizes k r = ltb k (length sizes) && roomy (r .run .progress) limits (length (r .run .output))
 
 pub begins : (limits : Limits) (sizes octets : List ℕ) (r : Reach) → ableIn (r .run) → sumOf sizes ≤ length octets → r .refused ≡ 0 → Passing limits sizes octets r 0 0 r
-begins limits sizes octets r A fits none = record {
+begins limits sizes octets r A room zero = record {
   same = refl;
   able = A;
   some = omega arith;
@@ -111,24 +113,46 @@ module _ {limits : Limits} {sizes octets : List ℕ} {r₀ : Reach} {k at : ℕ}
     unfolding framesOf
     frames-here = rw (here, width, drop-drop n at octets)
 
-    module _ (t : Taking) (e : t ≡ takes draft02 windowSize limits (r .run) f) where
-      -- a frame is left before its end
-      pub stopped : (eqb (t .reason) 0 && ltb (t .run .progress .next) n) ≡ true → within r t ≡ through draft02 windowSize limits r₀ (framesOf sizes octets)
-      unfolding through
-      stopped q = sym (P .same ∙ rw (frames-here, tests .1, ← e, length-f, q))
+    abbrev place : ℕ
+    place = r .run .progress .next
 
-      -- the next frame follows
-      pub passes : (eqb (t .reason) 0 && ltb (t .run .progress .next) n) ≡ false → ableIn (t .run) → Keeps (r .run) (t .run) → Passing limits sizes octets r₀ (k + 1) (at + n) (noted r t)
+    module _ (reason : ℕ) (e : reason ≡ numberOf (unfit draft02 f place)) where
+      -- the frame is refused, and the next one follows
+      pub refuses : 0 < reason → Passing limits sizes octets r₀ (k + 1) (at + n) (noted r reason)
       unfolding through
-      passes q A K =
-          record {
-            same = P .same ∙ rw (frames-here, tests .1, ← e, length-f, q);
+      refuses positive = record {
+        same = P .same ∙ rw (frames-here, tests .1, ← e, lt-ltb 0 reason positive);
+        able = record { sound = P .able .sound; pooled = P .able .pooled; used = P .able .used };
+        some = omega (arith, k<);
+        room = onward;
+        frame = omega (arith, P .frame);
+        few = omega (arith, P .few);
+        kept = record { pool = P .kept .pool; output = P .kept .output; lengths = P .kept .lengths; numbers = P .kept .numbers };
+        places = length-set (r .places) (r .refused) (r .frame) ∙ P .places;
+        reasons = length-set (r .reasons) (r .refused) reason ∙ P .reasons;
+      }
+
+      module _ (good : reason ≤ 0) where
+        pub fits : Fit draft02 f place
+        fits = fit draft02 f place (unrefused (unfit draft02 f place) (rw e at good))
+
+        module _ (t : Run) (went : t ≡ run windowSize false limits (r .run) (messagesFrom draft02 f place)) where
+          -- the frame is left before its end
+          pub stopped : t .progress .next < n → within r t ≡ through draft02 windowSize limits r₀ (framesOf sizes octets)
+          unfolding through
+          stopped lt = sym (P .same ∙ rw (frames-here, tests .1, ← e, le-ltb 0 reason good, ← went, length-f, lt-ltb (t .progress .next) n lt))
+
+          -- the next frame follows
+          pub passes : n ≤ t .progress .next → ableIn t → Keeps (r .run) t → Passing limits sizes octets r₀ (k + 1) (at + n) (passed r t)
+          unfolding through
+          passes le A K = record {
+            same = P .same ∙ rw (frames-here, tests .1, ← e, le-ltb 0 reason good, ← went, length-f, le-ltb (t .progress .next) n le);
             able = record { sound = A .sound; pooled = A .pooled; used = A .used };
             some = omega (arith, k<);
             room = onward;
             frame = omega (arith, P .frame);
-            few = counted-few (t .reason) (r .refused) k (P .few);
+            few = omega (arith, P .few);
             kept = record { pool = K .pool ∙ P .kept .pool; output = K .output ∙ P .kept .output; lengths = K .lengths ∙ P .kept .lengths; numbers = K .numbers ∙ P .kept .numbers };
-            places = length-entered (t .reason) (r .refused) (r .frame) (r .places) ∙ P .places;
-            reasons = length-entered (t .reason) (r .refused) (t .reason) (r .reasons) ∙ P .reasons;
+            places = P .places;
+            reasons = P .reasons;
           }

@@ -5,22 +5,16 @@ use receiver::Admission;
 use rows::State;
 ghost use mathlib.Core.Path.{_≡_};
 ghost use mathlib.Core.Bool.{_&&_};
-ghost use Prim.Native.Nat.{_+_, _≤_, _<_, _^_};
+ghost use Prim.Native.Nat.{_+_, _≤_};
 ghost use lib.ListN.{length, set};
 ghost use lib.Dec.{ltb};
 ghost use Rattle.octets.specs.Octets.{sumOf};
 ghost use Rattle.rows.specs.State.{windowOf};
-ghost use Rattle.rows.specs.Message.{draftOf};
+ghost use Rattle.rows.specs.Message.{draft02, draftOf};
 ghost use Rattle.messages.specs.Run as Loop;
+ghost use Rattle.receiver.specs.Receive.{numberOf, unfit};
 ghost use Rattle.frames.specs.Frames as Frames;
 ghost use Rattle.frames.specs.Frames.{framesOf};
-
-// What one frame leaves, and the number of its refusal, or 0.
-pub struct Taken {
-    pub state: State,
-    pub progress: Progress,
-    pub reason: u32,
-}
 
 // How far the frames were taken: the frame to go on with, the place in it in the progress, and how many were refused.
 pub struct Reached {
@@ -30,39 +24,14 @@ pub struct Reached {
     pub refused: usize,
 }
 
-// A frame from the progress's place on.
-fn take_frame(
-    state: State,
-    pool: &mut [u8],
-    frame: &[u8],
-    from: Progress,
-    output: &mut [u8],
-    lengths: &mut [u16],
-    numbers: &mut [u64],
-    limits: Limits,
-) -> Taken
-    requires { ⌜ Loop.Able state (now pool) (now output) from ⌝ }
-    ensures { λ r. ⌜
-        (Frames.took r (now (pool .exit)) (now (output .exit)) (now (lengths .exit)) (now (numbers .exit))
-        ≡ Frames.takes (draftOf state) (windowOf state) limits
-        (Loop.going state (now (pool .entry)) (now (output .entry)) (now (lengths .entry)) (now (numbers .entry)) from) (now (frame .entry)))
-        × (Loop.Able (r .state) (now (pool .exit)) (now (output .exit)) (r .progress)) ⌝ }
+// The number of a frame's refusal, or 0.
+fn reason_of(frame: &[u8], place: usize) -> u32
+    ensures { λ r. ⌜ r ≡ numberOf (unfit draft02 (now (frame .entry)) place) ⌝ }
 {
-    let a = receiver::admit_frame(frame, from.next);
-    if let Admission::Denied(refusal) = a {
-        return Taken {
-            state,
-            progress: from,
-            reason: receiver::refusal_number(refusal),
-        };
-    }
-    let r = messages::run(state, pool, frame, from, output, lengths, numbers, limits);
-    let next = r.state;
-    let progress = r.progress;
-    Taken {
-        state: next,
-        progress,
-        reason: 0,
+    let a = receiver::admit_frame(frame, place);
+    match a {
+        Admission::Admitted => 0,
+        Admission::Denied(refusal) => receiver::refusal_number(refusal),
     }
 }
 
@@ -80,22 +49,6 @@ fn put_entry(entries: &mut [u32], at: usize, x: u32)
     if at < entries.len() {
         entries[at] = x;
     }
-}
-
-// Notes a refused frame; answers how many are refused then.
-fn note(places: &mut [u32], reasons: &mut [u32], refused: usize, frame: u32, reason: u32) -> usize
-    requires { ⌜ refused + 1 < 2 ^ 64 ⌝ }
-    ensures { λ r. ⌜
-        (r ≡ Frames.counted reason refused)
-        × (now (places .exit) ≡ Frames.entered reason refused frame (now (places .entry)))
-        × (now (reasons .exit) ≡ Frames.entered reason refused reason (now (reasons .entry))) ⌝ }
-{
-    if reason == 0 {
-        return refused;
-    }
-    put_entry(places, refused, frame);
-    put_entry(reasons, refused, reason);
-    refused + 1
 }
 
 // Frames from the progress's place in the first one on, until a limit is reached or the output lacks room for a further bundle. `first` is
@@ -134,7 +87,18 @@ pub fn run_frames<'a>(
     while more(k, sizes.len(), progress, limits, output.len()) {
         let n = sizes[k] as usize;
         let end = at + n;
-        let t = take_frame(
+        let reason = reason_of(&octets[at..end], progress.next);
+        if 0 < reason {
+            put_entry(places, refused, frame);
+            put_entry(reasons, refused, reason);
+            refused += 1;
+            progress.next = 0;
+            k += 1;
+            frame += 1;
+            at = end;
+            continue;
+        }
+        let r = messages::run(
             now,
             pool,
             &octets[at..end],
@@ -144,15 +108,13 @@ pub fn run_frames<'a>(
             numbers,
             limits,
         );
-        let next = t.state;
+        let next = r.state;
         now = next;
-        let reason = t.reason;
-        let after = t.progress;
+        let after = r.progress;
         progress = after;
-        if (reason == 0) & (progress.next < n) {
+        if progress.next < n {
             break;
         }
-        refused = note(places, reasons, refused, frame, reason);
         progress.next = 0;
         k += 1;
         frame += 1;

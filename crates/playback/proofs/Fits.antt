@@ -23,12 +23,12 @@ use Rattle.rows.specs.Messages.{listed, boardAfter, handedBy, messagesIn}
 use Rattle.messages.specs.declared.Limits.{Limits}
 use Rattle.messages.specs.Run.{Run, roomy, progressed, advanced, run}
 use Rattle.receiver.specs.declared.Refusal.{Refusal}
-use Rattle.receiver.specs.Receive.{refusalNumber, unfit}
+use Rattle.receiver.specs.Receive.{refusalNumber, numberOf, unfit}
 use Rattle.receiver.proofs.Refusals.{fit, number-some}
 use Rattle.receiver.proofs.Ready.{Ready, step-ready}
 use Rattle.receiver.proofs.Weight.{held, octetsOf, payload, step-weight}
 use Rattle.recording.specs.Recording.{octetsMax}
-use Rattle.frames.specs.Frames.{Taking, Reach, treated, unfinished, fronted, noted, within, takes, through}
+use Rattle.frames.specs.Frames.{Reach, fronted, noted, passed, within, through}
 use Rattle.frames.proofs.Joined.{octetsIn}
 use Rattle.frames.proofs.Adding.{entries, Adds, adds-none, adds-silent, adds-bundle, adds-behind, Notes, notes-none}
 use Rattle.playback.proofs.Costs.{fee, Priced, Pays, pays, pays-within}
@@ -207,22 +207,24 @@ module _ (w : ℕ) (win : Window w) (falling : Bool) (limits : Limits) (most : l
       pub bounded : Bounded (after .run)
 
     module _ (f : List ℕ) (fs : List (List ℕ)) (r : Reach) where
+      -- the frame treated, to its end or not
+      abbrev treatedAs : Run → Reach
+      treatedAs t = cond (ltb (t .progress .next) (length f)) (within r t) (through D w limits (passed r t) fs)
+
       no-more : left (r .run) ≡ 0 → Bounded (r .run) → Plays r r (f ∷ fs)
       no-more z B = record { treats = rw z (treats-none (r .run)); notes = rw (z, nothing-left D (r .frame) (f ∷ fs)) (notes-none r); bounded = B }
 
       module _ (more : eqb (left (r .run)) 0 ≡ false) where
-        refused-turn : (q : Refusal) → unfit D f 0 ≡ some q → (after : Reach) → Plays (noted r (record { run = r .run; reason = refusalNumber q })) after fs → Plays r after (f ∷ fs)
+        refused-turn : (q : Refusal) → unfit D f 0 ≡ some q → (after : Reach) → Plays (noted r (refusalNumber q)) after fs → Plays r after (f ∷ fs)
         unfolding allMessages notesWithin unless noteOf entries
-        refused-turn q e after L =
-            let N = rw (number-some q) at (L .notes) in
-            record {
-              treats = rw e (treats-fronted (r .run) (after .run) _ (L .treats));
-              notes = rw (more, e, sub-zero (left (r .run))) (record { places = N .places; reasons = N .reasons; refused = omega (arith, N .refused) });
-              bounded = L .bounded;
-            }
+        refused-turn q e after L = record {
+          treats = rw e (treats-fronted (r .run) (after .run) _ (L .treats));
+          notes = rw (more, e, sub-zero (left (r .run))) (record { places = L .notes .places; reasons = L .notes .reasons; refused = omega (arith, L .notes .refused) });
+          bounded = L .bounded;
+        }
 
         treated-turn : unfit D f 0 ≡ none → (mid : Run) (after : Reach) → Treats (r .run) mid (messages read f) → length (messages read f) ≤ left (r .run)
-            → Plays (noted r (record { run = mid; reason = 0 })) after fs → Plays r after (f ∷ fs)
+            → Plays (passed r mid) after fs → Plays r after (f ∷ fs)
         unfolding allMessages notesWithin unless noteOf
         treated-turn e mid after T le L =
             let z : left mid ≡ left (r .run) - length (messages read f) = omega (arith, T .treated) in
@@ -234,7 +236,7 @@ module _ (w : ℕ) (win : Window w) (falling : Bool) (limits : Limits) (most : l
             }
 
         part-turn : unfit D f 0 ≡ none → (mid : Run) → Treats (r .run) mid (take (left (r .run)) (messages read f)) → left (r .run) < length (messages read f) → Bounded mid
-            → Plays r (within r (record { run = mid; reason = 0 })) (f ∷ fs)
+            → Plays r (within r mid) (f ∷ fs)
         unfolding allMessages notesWithin unless noteOf entries
         part-turn e mid T lt B =
             let z : left (r .run) - length (messages read f) ≡ 0 = omega arith in
@@ -247,7 +249,7 @@ module _ (w : ℕ) (win : Window w) (falling : Bool) (limits : Limits) (most : l
         -- a frame of messages
         row-turn : (all : List Item) → scanned read f ≡ row all → unfit D f 0 ≡ none → r .run .progress .next ≡ 0 → Paid (r .run) 0 (length f + octetsIn fs)
             → ((r₁ : Reach) → r₁ .run .progress .next ≡ 0 → Paid (r₁ .run) 0 (octetsIn fs) → Plays r₁ (through D w limits r₁ fs) fs)
-            → (t : Taking) → t ≡ record { run = run w falling limits (r .run) all; reason = 0 } → Plays r (cond (unfinished t f) (within r t) (through D w limits (noted r t) fs)) (f ∷ fs)
+            → (t : Run) → t ≡ run w falling limits (r .run) all → Plays r (treatedAs t) (f ∷ fs)
         unfolding messages items
         row-turn all whole₁ e n P later t same = rw same (go (G .fate))
           where
@@ -267,39 +269,28 @@ module _ (w : ℕ) (win : Window w) (falling : Bool) (limits : Limits) (most : l
             T = rw ms (G .treats)
 
             go : Fate (r .run) mid (length f) (length f + octetsIn fs) all
-                → Plays r (cond (ltb (mid .progress .next) (length f)) (within r (record { run = mid; reason = 0 })) (through D w limits (noted r (record { run = mid; reason = 0 })) fs)) (f ∷ fs)
+                → Plays r (treatedAs mid) (f ∷ fs)
             go (whole le nx P₁) =
                 rw (le-ltb (mid .progress .next) (length f) (omega arith))
-                (treated-turn e mid _ (rw (take-all (left (r .run)) (messages read f) (omega (arith, len))) at T) (omega (arith, len)) (later (noted r (record { run = mid; reason = 0 })) refl (fronted-paid mid (length f) (octetsIn fs) P₁)))
+                (treated-turn e mid _ (rw (take-all (left (r .run)) (messages read f) (omega (arith, len))) at T) (omega (arith, len)) (later (passed r mid) refl (fronted-paid mid (length f) (octetsIn fs) P₁)))
             go (part lt nx) = rw (lt-ltb (mid .progress .next) (length f) nx) (part-turn e mid T (omega (arith, len)) (G .bounded))
 
         begins : (all : List Item) → scanned read f ≡ row all → messagesFrom D f 0 ≡ all
         unfolding messagesFrom items
         begins all e = rw e (from-start 0 (length f) all (leads read M f all e))
 
-        takes-row : (all : List Item) → scanned read f ≡ row all → unfit D f (r .run .progress .next) ≡ none → r .run .progress .next ≡ 0
-            → takes D w limits (r .run) f ≡ record { run = run w falling limits (r .run) all; reason = 0 }
-        unfolding takes treated
-        takes-row all whole₁ e n =
-            let is : messagesFrom D f (r .run .progress .next) ≡ all = ap (λ (at : ℕ). messagesFrom D f at) n ∙ begins all whole₁ in
-            rw (e, is)
-
         -- a frame, and the frames behind it
         turn : r .run .progress .next ≡ 0 → Paid (r .run) 0 (length f + octetsIn fs) → ((r₁ : Reach) → r₁ .run .progress .next ≡ 0 → Paid (r₁ .run) 0 (octetsIn fs) → Plays r₁ (through D w limits r₁ fs) fs)
             → (q : Option Refusal) → unfit D f (r .run .progress .next) ≡ q
-            → Plays r (cond (unfinished (takes D w limits (r .run) f) f) (within r (takes D w limits (r .run) f)) (through D w limits (noted r (takes D w limits (r .run) f)) fs)) (f ∷ fs)
-        unfolding takes treated
+            → Plays r (cond (ltb 0 (numberOf q)) (through D w limits (noted r (numberOf q)) fs) (treatedAs (run w falling limits (r .run) (messagesFrom D f (r .run .progress .next))))) (f ∷ fs)
         turn n P later (some q) e =
-            let t : Taking = record { run = r .run; reason = refusalNumber q } in
-            let same : takes D w limits (r .run) f ≡ t = rw e in
             let e₀ : unfit D f 0 ≡ some q = ap (λ (at : ℕ). unfit D f at) (sym n) ∙ e in
             let P₁ : Paid (fronted (r .run)) 0 (octetsIn fs) = record { ready = P .ready; size = P .size; octets = omega (arith, P .octets); bundles = omega (arith, P .bundles); below = omega arith } in
-            let over : unfinished t f ≡ false = rw (number-some q) in
-            rw (same, over) (refused-turn q e₀ _ (later (noted r t) refl P₁))
+            rw (lt-ltb 0 (refusalNumber q) (number-some q)) (refused-turn q e₀ _ (later (noted r (refusalNumber q)) refl P₁))
         turn n P later none e =
             let e₀ : unfit D f 0 ≡ none = ap (λ (at : ℕ). unfit D f at) (sym n) ∙ e in
             let a = taken read M f 0 (fit D f 0 e₀ .accepted) in
-            row-turn (a .items) (a .whole) e₀ n P later (takes D w limits (r .run) f) (takes-row (a .items) (a .whole) e n)
+            row-turn (a .items) (a .whole) e₀ n P later _ (ap (λ (at : ℕ). run w falling limits (r .run) (messagesFrom D f at)) n ∙ ap (run w falling limits (r .run)) (begins (a .items) (a .whole)))
 
     -- the loop over frames plays them, from any progress at a frame's front
     pub plays : (fs : List (List ℕ)) (r : Reach) → r .run .progress .next ≡ 0 → Paid (r .run) 0 (octetsIn fs) → Plays r (through D w limits r fs) fs

@@ -18,7 +18,7 @@ use Rattle.wire.specs.declared.Checked.the-variants as Frame
 use Rattle.wire.specs.declared.Fault.the-variants.{ShortHeader, PastFrame, PastMessage, BadContent}
 use Rattle.pieces.specs.Pieces.{bundleMax}
 use Rattle.rows.specs.Message.{Draft, Board, messagesFrom}
-use Rattle.receiver.specs.Receive.{refusalNumber, frameRefusal, unfit, replied, refusal, treat, receive}
+use Rattle.receiver.specs.Receive.{refusalNumber, numberOf, frameRefusal, unfit, replied, refusal, treat, receive}
 use Rattle.receiver.specs.Steps.{admission}
 use Rattle.rows.specs.State.{sound}
 use Rattle.receiver.specs.declared.Admission.the-variants.{Admitted, Denied}
@@ -115,20 +115,16 @@ isMisplaced Frame.Misplaced = true
 abbrev frameCases : Checked → List (ℕ × Bool)
 frameCases c = (4, isFault 4 c) ∷ (6, isFault 6 c) ∷ (7, isFault 7 c) ∷ (8, isFault 8 c) ∷ (9, isMisplaced c) ∷ []
 
-unfoldable pub numberOf : Option Refusal → ℕ
-numberOf none = 0
-numberOf (some q) = refusalNumber q
-
 -- 0 is no refusal's number
-pub number-some : (q : Refusal) → eqb (refusalNumber q) 0 ≡ false
-number-some Unsound = refl
-number-some BufferSize = refl
-number-some FrameSize = refl
-number-some (Malformed ShortHeader at) = refl
-number-some (Malformed PastFrame at) = refl
-number-some (Malformed PastMessage at) = refl
-number-some (Malformed BadContent at) = refl
-number-some Misplaced = refl
+pub number-some : (q : Refusal) → 0 < refusalNumber q
+number-some Unsound = omega arith
+number-some BufferSize = omega arith
+number-some FrameSize = omega arith
+number-some (Malformed ShortHeader at) = omega arith
+number-some (Malformed PastFrame at) = omega arith
+number-some (Malformed PastMessage at) = omega arith
+number-some (Malformed BadContent at) = omega arith
+number-some Misplaced = omega arith
 
 -- 5 is never given
 pub never-five : (q : Refusal) → refusalNumber q ≡ 5 → ⊥
@@ -142,7 +138,7 @@ never-five (Malformed BadContent at) e = omega arith
 never-five Misplaced e = omega arith
 
 frame-order : (c : Checked) → numberOf (frameRefusal c) ≡ first (frameCases c)
-unfolding numberOf first frameRefusal
+unfolding first frameRefusal
 frame-order Frame.Accepted = refl
 frame-order (Frame.Malformed ShortHeader at) = refl
 frame-order (Frame.Malformed PastFrame at) = refl
@@ -160,7 +156,7 @@ module _ (D : Draft) (w : ℕ) (b : Board) (frame : List ℕ) (place : ℕ) (out
 
   -- the number given is the first of the table whose case holds
   pub in-order : numberOf (refusal D w b frame place output) ≡ first cases
-  unfolding refusal numberOf first
+  unfolding refusal first
   in-order = go (bool (not (sound (b .state)))) (bool (not (eqb (length (b .pool)) (w * bundleMax)) || ltb (length output) bundleMax)) (bool (eqb (length frame) 0 || ltb frameMax (length frame)))
     where
       go : (not (sound (b .state)) ≡ true) ⊎ (not (sound (b .state)) ≡ false)

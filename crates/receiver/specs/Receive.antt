@@ -27,6 +27,11 @@ refusalNumber FrameSize = 3
 refusalNumber (Malformed fault place) = faultNumber fault
 refusalNumber Misplaced = 9
 
+-- 0 for none
+abbrev pub numberOf : Option Refusal → ℕ
+numberOf none = 0
+numberOf (some q) = refusalNumber q
+
 abbrev pub refusalPlace : Refusal → Option ℕ
 refusalPlace Unsound = none
 refusalPlace BufferSize = none

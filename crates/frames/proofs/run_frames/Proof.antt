@@ -8,7 +8,7 @@ use lib.ListN.{length, getD}
 use borrow.Author.Needs.{needs}
 use Rattle.messages.specs.Run.{going}
 use Rattle.frames.specs.Frames.{Reach, setOut}
-use Rattle.frames.proofs.Passing.{Passing, goesOn, begins, ends, k<, inside, stopped, passes}
+use Rattle.frames.proofs.Passing.{Passing, goesOn, begins, ends, k<, inside, refuses, fits, stopped, passes}
 use Rattle.frames.proofs.run_frames.Statement.{statement}
 use Rattle.frames.proofs.run_frames.Tie as tie
 
@@ -58,9 +58,12 @@ module _ (c : tie.After-shared-slice-known3 Inv-loop μ-loop) where
   within : here .loop .at + getD sizes (here .loop .k) 0 ≤ length (start here .args .octets .now)
   within = inside (here .loop .inv) test
 
-module _ (c : tie.After-take-frame Inv-loop μ-loop) where
+module _ (c : tie.After-reason-of Inv-loop μ-loop) where
   abbrev known : tie.After-shared-slice-known3 Inv-loop μ-loop
-  known = c .before .before .before .before .before .before
+  known = c .before .before
+
+  further : here known .loop .frame + 1 ≤ 65536
+  further = omega (arith, here known .loop .inv .frame, below known, start (here known) .pre .2)
 
 -- ---- the needs
 
@@ -82,72 +85,115 @@ cast-n c = omega (arith, c .shared-slice-known3 .given (here c .loop .k))
 add-end : tie.Need-add-end Inv-loop μ-loop
 add-end c = record { fits = omega (arith, within c, sized (start (here c))) }
 
-sub-take-frame : tie.Need-sub-take-frame Inv-loop μ-loop
-sub-take-frame c = omega arith
+sub-reason-of : tie.Need-sub-reason-of Inv-loop μ-loop
+sub-reason-of c = omega arith
 
-part-take-frame-start : tie.Need-part-take-frame-start Inv-loop μ-loop
-part-take-frame-start c = omega (arith, within (c .before))
+part-reason-of-start : tie.Need-part-reason-of-start Inv-loop μ-loop
+part-reason-of-start c = omega (arith, within c)
 
-part-take-frame-end : tie.Need-part-take-frame-end Inv-loop μ-loop
-part-take-frame-end c = omega (arith, within (c .before))
+part-reason-of-end : tie.Need-part-reason-of-end Inv-loop μ-loop
+part-reason-of-end c = omega (arith, within c)
 
-take-frame-requires : tie.Need-take-frame-requires Inv-loop μ-loop
-take-frame-requires c κs = here (c .before .before .before .before .before) .loop .inv .able
+reason-of-requires : tie.Need-reason-of-requires Inv-loop μ-loop
+reason-of-requires c κs = search needs
 
--- ---- a frame is left before its end
+-- ---- a frame is refused
 
-module _ (c : tie.After-struct-known Inv-loop μ-loop) where
-  abbrev left : tie.After-take-frame Inv-loop μ-loop
-  left = c .before .before .before .before .before .before .before .before .before .before .before
+put-entry-requires : tie.Need-put-entry-requires Inv-loop μ-loop
+put-entry-requires c κs = search needs
 
-same-length-7 : tie.Need-same-length-7 Inv-loop μ-loop
-same-length-7 c = let t = left (c .before) in t .take-frame .kept .1 .0 ∙ here (known t) .loop .inv .kept .pool
+put-entry-requires-2 : tie.Need-put-entry-requires-2 Inv-loop μ-loop
+put-entry-requires-2 c κs = search needs
 
-same-length-8 : tie.Need-same-length-8 Inv-loop μ-loop
-same-length-8 c = let t = left (c .before) in t .take-frame .kept .1 .1 .1 .1 .0 ∙ here (known t) .loop .inv .kept .output
+module _ (c : tie.After-slice-known8 Inv-loop μ-loop) where
+  abbrev refused : tie.After-reason-of Inv-loop μ-loop
+  refused = c .before .before .before .before .before .before .before .before .before
 
-same-length-9 : tie.Need-same-length-9 Inv-loop μ-loop
-same-length-9 c = let t = left (c .before) in t .take-frame .kept .1 .1 .1 .1 .1 .0 ∙ here (known t) .loop .inv .kept .lengths
-
-same-length-10 : tie.Need-same-length-10 Inv-loop μ-loop
-same-length-10 c = let t = left (c .before) in t .take-frame .kept .1 .1 .1 .1 .1 .1 .0 ∙ here (known t) .loop .inv .kept .numbers
-
-same-length-11 : tie.Need-same-length-11 Inv-loop μ-loop
-same-length-11 c = here (known (left (c .before))) .loop .inv .places
-
-same-length-12 : tie.Need-same-length-12 Inv-loop μ-loop
-same-length-12 c = here (known (left (c .before))) .loop .inv .reasons
-
-returns-2 : tie.Need-returns-2 Inv-loop μ-loop
-returns-2 c = let t = left (c .before) in stopped (here (known t) .loop .inv) (test (known t)) _ (t .take-frame .ensures .0) (c .if2 .taken)
-
--- ---- the next frame follows
-
-note-requires : tie.Need-note-requires Inv-loop μ-loop
-note-requires c κs = let k = known (left (c .before .before .before)) in omega (arith, here k .loop .inv .few, few k)
-
-module _ (c : tie.After-note Inv-loop μ-loop) where
-  abbrev done : tie.After-take-frame Inv-loop μ-loop
-  done = left (c .before .before .before .before)
+add-refused : tie.Need-add-refused Inv-loop μ-loop
+add-refused c = let k = known (refused c) in record { fits = omega (arith, here k .loop .inv .few, few k) }
 
 add-k : tie.Need-add-k Inv-loop μ-loop
-add-k c = record { fits = omega (arith, few (known (done (c .before .before .before .before)))) }
+add-k c = record { fits = omega (arith, few (known (refused c))) }
 
 add-frame : tie.Need-add-frame Inv-loop μ-loop
-add-frame c = let k = known (done (c .before .before .before .before)) in record { fits = omega (arith, here k .loop .inv .frame, below k, start (here k) .pre .2) }
+add-frame c = record { fits = omega (arith, further (refused c)) }
 
 loop-less : tie.Need-loop-less Inv-loop μ-loop
-loop-less c = omega (arith, below (known (done (c .before .before .before .before))))
+loop-less c = omega (arith, below (known (refused c)))
 
 loop-again : tie.Need-loop-again Inv-loop μ-loop
 loop-again c =
-    let n = c .before .before .before .before in
-    let t = done n in
-    let e = n .note .ensures in
-    let s = t .take-frame .kept in
-    rw (e .0, e .1, e .2)
-    (passes (here (known t) .loop .inv) (test (known t)) _ (t .take-frame .ensures .0) (c .before .before .before .before .before .before .before .if2 .left) (t .take-frame .ensures .1)
-    (record { pool = s .1 .0; output = s .1 .1 .1 .1 .0; lengths = s .1 .1 .1 .1 .1 .0; numbers = s .1 .1 .1 .1 .1 .1 .0 }))
+    let r = refused c in
+    rw (c .before .before .put-entry2 .ensures, c .before .before .before .before .before .before .put-entry .ensures)
+    (refuses (here (known r) .loop .inv) (test (known r)) _ (r .reason-of .ensures) (c .before .before .before .before .before .before .before .before .if2 .taken))
+
+-- ---- a frame is taken
+
+sub-run : tie.Need-sub-run Inv-loop μ-loop
+sub-run c = omega arith
+
+part-run-start : tie.Need-part-run-start Inv-loop μ-loop
+part-run-start c = omega (arith, within (known (c .before .before)))
+
+part-run-end : tie.Need-part-run-end Inv-loop μ-loop
+part-run-end c = omega (arith, within (known (c .before .before)))
+
+run-requires : tie.Need-run-requires Inv-loop μ-loop
+run-requires c κs =
+    let r = c .before .before .before .before .before .before in
+    let f = fits (here (known r) .loop .inv) (test (known r)) _ (r .reason-of .ensures) (c .before .before .before .before .before .if2 .left) in
+    (here (known r) .loop .inv .able, f .small, f .accepted)
+
+module _ (c : tie.After-run Inv-loop μ-loop) where
+  abbrev admitted : tie.After-reason-of Inv-loop μ-loop
+  admitted = c .before .before .before .before .before .before .before
+
+module _ (c : tie.After-struct-known Inv-loop μ-loop) where
+  abbrev left : tie.After-run Inv-loop μ-loop
+  left = c .before .before .before .before .before .before .before .before .before .before .before
+
+add-k-2 : tie.Need-add-k-2 Inv-loop μ-loop
+add-k-2 c = record { fits = omega (arith, few (known (admitted (left (c .before))))) }
+
+add-frame-2 : tie.Need-add-frame-2 Inv-loop μ-loop
+add-frame-2 c = record { fits = omega (arith, further (admitted (left (c .before)))) }
+
+loop-less-2 : tie.Need-loop-less-2 Inv-loop μ-loop
+loop-less-2 c = omega (arith, below (known (admitted (left (c .before)))))
+
+loop-again-2 : tie.Need-loop-again-2 Inv-loop μ-loop
+loop-again-2 c =
+    let t = left (c .before) in
+    let r = admitted t in
+    let s = t .run .kept in
+    passes (here (known r) .loop .inv) (test (known r)) _ (r .reason-of .ensures) (t .before .before .before .before .before .before .if2 .left) _ (t .run .ensures .0) (c .if3 .left) (t .run .ensures .1)
+    (record { pool = s .1 .0; output = s .1 .1 .1 .1 .0; lengths = s .1 .1 .1 .1 .1 .0; numbers = s .1 .1 .1 .1 .1 .1 .0 })
+
+-- ---- a frame is left before its end
+
+same-length-7 : tie.Need-same-length-7 Inv-loop μ-loop
+same-length-7 c = let t = left (c .before) in t .run .kept .1 .0 ∙ here (known (admitted t)) .loop .inv .kept .pool
+
+same-length-8 : tie.Need-same-length-8 Inv-loop μ-loop
+same-length-8 c = let t = left (c .before) in t .run .kept .1 .1 .1 .1 .0 ∙ here (known (admitted t)) .loop .inv .kept .output
+
+same-length-9 : tie.Need-same-length-9 Inv-loop μ-loop
+same-length-9 c = let t = left (c .before) in t .run .kept .1 .1 .1 .1 .1 .0 ∙ here (known (admitted t)) .loop .inv .kept .lengths
+
+same-length-10 : tie.Need-same-length-10 Inv-loop μ-loop
+same-length-10 c = let t = left (c .before) in t .run .kept .1 .1 .1 .1 .1 .1 .0 ∙ here (known (admitted t)) .loop .inv .kept .numbers
+
+same-length-11 : tie.Need-same-length-11 Inv-loop μ-loop
+same-length-11 c = here (known (admitted (left (c .before)))) .loop .inv .places
+
+same-length-12 : tie.Need-same-length-12 Inv-loop μ-loop
+same-length-12 c = here (known (admitted (left (c .before)))) .loop .inv .reasons
+
+returns-2 : tie.Need-returns-2 Inv-loop μ-loop
+returns-2 c =
+    let t = left (c .before) in
+    let r = admitted t in
+    stopped (here (known r) .loop .inv) (test (known r)) _ (r .reason-of .ensures) (t .before .before .before .before .before .before .if2 .left) _ (t .run .ensures .0) (c .if3 .taken)
 
 -- ---- the loop ends
 
@@ -184,15 +230,25 @@ run-frames-spec =
     shared-slice-read-n
     cast-n
     add-end
-    sub-take-frame
-    part-take-frame-start
-    part-take-frame-end
-    take-frame-requires
-    note-requires
+    sub-reason-of
+    part-reason-of-start
+    part-reason-of-end
+    reason-of-requires
+    put-entry-requires
+    put-entry-requires-2
+    add-refused
     add-k
     add-frame
     loop-less
     loop-again
+    sub-run
+    part-run-start
+    part-run-end
+    run-requires
+    add-k-2
+    add-frame-2
+    loop-less-2
+    loop-again-2
     same-length
     same-length-2
     same-length-3
