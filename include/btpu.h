@@ -9,7 +9,8 @@
  * time of a call: the image of the state, the pool, the frame, the output. What is lent must be
  * valid for the length given, and what a call may write to must not overlap with anything else
  * that is lent to it. No pointer may be NULL, also not with a length of 0. Calls with different
- * images and buffers may run at the same time.
+ * images and buffers may run at the same time. A call takes up to BTPU_STACK octets of the stack,
+ * btpu_play up to BTPU_PLAY_STACK.
  *
  * Answers. Every function returns 0, or the number of a refusal (BTPU_REFUSED_...). The first
  * refusal that applies is given, in the order of the numbers unless a function names another. A
@@ -79,6 +80,8 @@ extern "C" {
 #define BTPU_MIN_FRAME_SIZE 128
 #define BTPU_MAX_FRAME_SIZE 2048
 #define BTPU_MAX_RECORDING 63496
+#define BTPU_STACK 65536
+#define BTPU_PLAY_STACK 131072
 
 /* What a recording holds at most, and what a playback of it comes to at most */
 
@@ -245,11 +248,9 @@ uint32_t btpu_recording_open(const uint8_t *recording, size_t recording_len,
  *
  * The pool has BTPU_POOL octets. At least BTPU_RECORDED_OCTETS octets of output,
  * BTPU_PLAYED_BUNDLES lengths, and BTPU_RECORDED_FRAMES places and reasons are asked for: every
- * recording has room in them. The call takes up to BTPU_PLAY_STACK octets of the stack.
+ * recording has room in them.
  * Refusals: 16 to 20 as btpu_recording_open gives them; then 2; then 24.
  */
-#define BTPU_PLAY_STACK 98304
-
 uint32_t btpu_play(const uint8_t *recording, size_t recording_len, uint64_t limit, uint8_t *pool,
                    size_t pool_len, uint8_t *output, size_t output_len, uint16_t *lengths,
                    size_t lengths_len, uint32_t *places, size_t places_len, uint32_t *reasons,

@@ -41,11 +41,15 @@ fn sends_and_receives() {
     );
 }
 
-/// The program fails where a playback takes more of the stack than the header says.
+/// The program fails where a call takes more of the stack than the header says.
 #[test]
-fn plays_within_its_stack() {
-    let printed = run("harness/tests/play_stack.c", "play_stack");
-    let used: usize = printed.trim().parse().expect("a number of octets");
-    println!("a playback takes {used} octets of the stack");
+fn calls_within_their_stack() {
+    let printed = run("harness/tests/stack.c", "stack");
+    print!("octets of the stack:\n{printed}");
+    let played = printed
+        .lines()
+        .find_map(|line| line.strip_prefix("play "))
+        .expect("a line for the playback");
+    let used: usize = played.parse().expect("a number of octets");
     assert!(used > 65_536, "its buffer alone takes 65,536 octets");
 }

@@ -1,0 +1,185 @@
+/* How much of the stack each call takes: on a thread whose stack is painted before. */
+#define _POSIX_C_SOURCE 200112L
+#include <pthread.h>
+#include <stdint.h>
+#include <stdio.h>
+#include <stdlib.h>
+#include <string.h>
+
+#include "btpu.h"
+
+#define STACK (1024 * 1024)
+#define PAINT 0xa5
+#define FRAME_SIZE 128
+#define FRAMES 6
+
+static uint8_t board[BTPU_RECEIVER_IMAGE];
+static uint8_t sender[BTPU_SENDER_IMAGE];
+static uint8_t pool[BTPU_POOL];
+static uint8_t frame[FRAME_SIZE];
+static uint8_t bundle[BTPU_MAX_BUNDLE];
+static uint8_t joined[BTPU_RECORDED_OCTETS];
+static uint16_t sizes[BTPU_RECORDED_FRAMES];
+static uint8_t recording[BTPU_MAX_RECORDING];
+static size_t joined_len, frames, recording_len;
+static uint8_t output[BTPU_RECORDED_OCTETS];
+static uint16_t lengths[BTPU_PLAYED_BUNDLES];
+static uint32_t places[BTPU_RECORDED_FRAMES];
+static uint32_t reasons[BTPU_RECORDED_FRAMES];
+static uint64_t result[BTPU_RESULT];
+
+static void expect(int good, const char *what)
+{
+    if (!good) {
+        fprintf(stderr, "%s\n", what);
+        exit(1);
+    }
+}
+
+static void add(const uint8_t *octets, size_t n)
+{
+    memcpy(joined + joined_len, octets, n);
+    joined_len += n;
+    sizes[frames++] = (uint16_t)n;
+}
+
+/* A frame of one bundle message with as many hints as there can be; the last says whether another follows. */
+static void add_hints(uint8_t last)
+{
+    uint8_t long_frame[BTPU_MAX_FRAME] = {0x02, 0x80, 0x07, 0xfc};
+    for (size_t at = 4; at < sizeof long_frame; at += 2)
+        long_frame[at] = at + 2 < sizeof long_frame ? 3 : last;
+    add(long_frame, sizeof long_frame);
+}
+
+/* ---- the calls, each on a thread of its own */
+
+static void *nothing(void *unused)
+{
+    return unused;
+}
+
+static void *start_receiver(void *unused)
+{
+    expect(btpu_receiver_start(board, sizeof board) == 0, "receiver_start");
+    return unused;
+}
+
+static void *receive(void *unused)
+{
+    size_t at = 0;
+    for (size_t k = 0; k < frames; at += sizes[k++]) {
+        uint64_t place = 0;
+        uint32_t refused;
+        do {
+            refused = btpu_receive(board, sizeof board, pool, sizeof pool, joined + at, sizes[k],
+                                   place, output, sizeof output, result);
+            place = result[BTPU_PLACE];
+        } while (refused == 0 && result[BTPU_ANSWER] == BTPU_BUNDLE);
+    }
+    return unused;
+}
+
+static void *start_sender(void *unused)
+{
+    expect(btpu_sender_start(sender, sizeof sender, FRAME_SIZE, 0) == 0, "sender_start");
+    return unused;
+}
+
+static void *place(void *unused)
+{
+    expect(btpu_place(sender, sizeof sender, bundle, sizeof bundle, frame, sizeof frame, result) == 0,
+           "place");
+    return unused;
+}
+
+static void *cancel(void *unused)
+{
+    expect(btpu_cancel(sender, sizeof sender, frame, sizeof frame, result) == 0, "cancel");
+    return unused;
+}
+
+static void *flush(void *unused)
+{
+    expect(btpu_flush(sender, sizeof sender, frame, sizeof frame, result) == 0, "flush");
+    return unused;
+}
+
+static void *record(void *unused)
+{
+    expect(btpu_record(sizes, frames, joined, joined_len, recording, sizeof recording, result) == 0,
+           "record");
+    recording_len = (size_t)result[BTPU_WRITTEN];
+    return unused;
+}
+
+static void *open_recording(void *unused)
+{
+    static uint16_t opened[BTPU_RECORDED_FRAMES];
+    expect(btpu_recording_open(recording, recording_len, opened, result) == 0, "recording_open");
+    return unused;
+}
+
+static void *play(void *unused)
+{
+    expect(btpu_play(recording, recording_len, UINT64_MAX, pool, sizeof pool, output, sizeof output,
+                     lengths, BTPU_PLAYED_BUNDLES, places, BTPU_RECORDED_FRAMES, reasons,
+                     BTPU_RECORDED_FRAMES, result) == 0,
+           "play");
+    expect(result[BTPU_PLAYED_COUNT] == 3 && result[BTPU_PLAYED_REFUSED] == 2, "what was played");
+    return unused;
+}
+
+/* The octets of a painted stack that a thread writes to. */
+static size_t used(void *(*body)(void *))
+{
+    void *stack = NULL;
+    pthread_attr_t attributes;
+    pthread_t thread;
+    expect(posix_memalign(&stack, 4096, STACK) == 0, "memory");
+    memset(stack, PAINT, STACK);
+    expect(pthread_attr_init(&attributes) == 0 &&
+               pthread_attr_setstack(&attributes, stack, STACK) == 0 &&
+               pthread_create(&thread, &attributes, body, NULL) == 0 &&
+               pthread_join(thread, NULL) == 0,
+           "thread");
+    size_t clean = 0;
+    while (clean < STACK && ((uint8_t *)stack)[clean] == PAINT)
+        clean++;
+    free(stack);
+    return STACK - clean;
+}
+
+int main(void)
+{
+    static const uint8_t whole[] = {0x02, 0, 0, 1, 0x41};
+    static const uint8_t segment[] = {0x03, 0x80, 0, 13, 3, 1, 0, 2, 0, 0, 0, 0, 5, 0, 0, 0, 0};
+    static const uint8_t end[] = {0x04, 0, 0, 9, 0, 0, 0, 5, 0, 0, 0, 1, 0x42};
+    static const uint8_t cut_short[] = {0x03, 0, 0};
+    add(whole, sizeof whole);
+    add(segment, sizeof segment);
+    add(end, sizeof end);
+    add(cut_short, sizeof cut_short);
+    add_hints(2); /* the chain ends with the frame: an empty bundle */
+    add_hints(3); /* the chain runs past it: refusal 7 */
+    expect(frames == FRAMES, "frames");
+
+    static const struct {
+        const char *name;
+        void *(*body)(void *);
+        size_t most;
+    } calls[] = {
+        {"receiver_start", start_receiver, BTPU_STACK}, {"receive", receive, BTPU_STACK},
+        {"sender_start", start_sender, BTPU_STACK},     {"place", place, BTPU_STACK},
+        {"cancel", cancel, BTPU_STACK},                 {"flush", flush, BTPU_STACK},
+        {"record", record, BTPU_STACK},                 {"recording_open", open_recording, BTPU_STACK},
+        {"play", play, BTPU_PLAY_STACK},
+    };
+    size_t own = used(nothing);
+    for (size_t k = 0; k < sizeof calls / sizeof calls[0]; k++) {
+        size_t octets = used(calls[k].body) - own;
+        printf("%s %zu\n", calls[k].name, octets);
+        expect(octets <= calls[k].most, "more than the header says");
+    }
+    return 0;
+}
