@@ -9,7 +9,8 @@ use Rattle.rows.specs.declared.State.{State}
 use Rattle.rows.specs.Message.{draft02}
 use Rattle.receiver.specs.Receive.{reply, receive}
 use Rattle.images.specs.Receiver.{isImage, stateOf}
-use Rattle.board.specs.Receiver.{Exported, status, report, kept, exported, received}
+use Rattle.answers.specs.Receiver.{status, report, kept}
+use Rattle.board.specs.Receiver.{Exported, exported, received}
 
 pub image-refused : (image pool frame : List ℕ) (place : ℕ) (output result : List ℕ) → isImage image ≡ false
     → _≡_ {A = Exported} (record { status = 1; image = image; pool = pool; output = output; result = result }) (received image pool frame place output result)

@@ -14,7 +14,8 @@ use Rattle.receiver.specs.Receive.{Reply, receive}
 use Rattle.receiver.proofs.Refusals as Refusals
 use Rattle.receiver.proofs.Reserved as Receiver
 use Rattle.images.specs.Receiver.{isImage, stateOf}
-use Rattle.board.specs.Receiver.{status, exported, received}
+use Rattle.answers.specs.Receiver.{status}
+use Rattle.board.specs.Receiver.{exported, received}
 
 pub reserved-ignored : (image pool : List ℕ) {f g : List ℕ} → SameButReserved f g → (place : ℕ) (output result : List ℕ)
     → received image pool f place output result ≡ received image pool g place output result

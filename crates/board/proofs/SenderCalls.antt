@@ -14,7 +14,8 @@ use Rattle.sender.specs.declared.Started.the-variants.{Made, Refused}
 use Rattle.sender.specs.Answers.{startReply}
 use Rattle.sender.specs.Calls as Calls
 use Rattle.images.specs.Sender.{imageSize, isImage, imageOf}
-use Rattle.board.specs.Sender.{Exported, status, report, kept, exported, unlessImage, startedWith, started}
+use Rattle.answers.specs.Sender.{status, report, kept}
+use Rattle.board.specs.Sender.{Exported, exported, unlessImage, startedWith, started}
 
 pub image-refused : (image frame result : List ℕ) (e : Exported) → isImage image ≡ false
     → _≡_ {A = Exported} (record { status = 1; image = image; frame = frame; result = result }) (unlessImage image frame result e)

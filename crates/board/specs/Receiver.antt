@@ -1,18 +1,14 @@
 -- The receiver for hosts in other languages: its calls on images of its state, its answer as a number and an array of four numbers.
 use mathlib.Core.Bool.{cond}
-use mathlib.Core.Option.{Option, none, some}
-use mathlib.Core.List.{List, [], _∷_}
+use mathlib.Core.List.{List}
 use Prim.Native.Nat.{ℕ}
-use lib.ListN.{length, set}
+use lib.ListN.{length}
 use lib.Dec.{eqb}
 use Rattle.window.specs.Window.{windowSize}
-use Rattle.rows.specs.declared.State.{State}
-use Rattle.receiver.specs.declared.Answer.{Answer}
-use Rattle.receiver.specs.declared.Answer.the-variants.{Delivered, Finished, Refused}
 use Rattle.rows.specs.State.{fresh, windowOf}
-use Rattle.rows.specs.Message.{Board, draftOf}
-use Rattle.messages.specs.Run.{originNumber}
-use Rattle.receiver.specs.Receive.{refusalNumber, refusalPlace, Reply, receive}
+use Rattle.rows.specs.Message.{draftOf}
+use Rattle.receiver.specs.Receive.{Reply, receive}
+use Rattle.answers.specs.Receiver.{status, report, kept}
 use Rattle.images.specs.Receiver.{imageSize, isImage, stateOf, imageOf}
 
 -- what a call returns, 0 or the refusal's number, and what it leaves of the image, the pool, the output and the result
@@ -22,26 +18,6 @@ pub record Exported : Type 0 where
   pub pool : List ℕ
   pub output : List ℕ
   pub result : List ℕ
-
-abbrev pub status : Answer → ℕ
-status (Delivered length next origin) = 0
-status Finished = 0
-status (Refused refusal) = refusalNumber refusal
-
-unfoldable pub named : Option ℕ → List ℕ → List ℕ
-named none result = result
-named (some place) result = set result 2 place
-
--- 1, length, next place and number for a bundle; 0 for Finished; the place that a refusal names. Other entries stay.
-unfoldable pub report : Answer → List ℕ → List ℕ
-report (Delivered length next origin) result = 1 ∷ length ∷ next ∷ originNumber origin ∷ []
-report Finished result = set result 0 0
-report (Refused refusal) result = named (refusalPlace refusal) result
-
-unfoldable pub kept : Answer → List ℕ → State → List ℕ
-kept (Delivered length next origin) image state = imageOf state
-kept Finished image state = imageOf state
-kept (Refused refusal) image state = image
 
 unfoldable pub exported : Reply → List ℕ → List ℕ → Exported
 exported r image result =

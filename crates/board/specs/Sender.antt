@@ -2,12 +2,12 @@
 use mathlib.Core.Bool.{cond}
 use mathlib.Core.List.{List}
 use Prim.Native.Nat.{ℕ}
-use lib.ListN.{length, set}
+use lib.ListN.{length}
 use lib.Dec.{eqb}
-use Rattle.framing.specs.declared.State.{State}
-use Rattle.framing.specs.Answers.{Reply, placed, placedAndReady, ready, nothing, refused, Outcome}
+use Rattle.framing.specs.Answers.{Outcome}
 use Rattle.sender.specs.Answers.{StartReply, made, denied}
 use Rattle.sender.specs.Calls as Calls
+use Rattle.answers.specs.Sender.{status, report, kept}
 use Rattle.images.specs.Sender.{imageSize, isImage, stateOf, imageOf}
 
 -- what a call returns, 0 or the refusal's number, and what it leaves of the image, the frame buffer and the result
@@ -16,28 +16,6 @@ pub record Exported : Type 0 where
   pub image : List ℕ
   pub frame : List ℕ
   pub result : List ℕ
-
-unfoldable pub status : Reply → ℕ
-status placed = 0
-status placedAndReady = 0
-status ready = 0
-status nothing = 0
-status (refused n) = n
-
--- 0 Placed, 1 Placed and ready, 2 Ready, 3 Nothing; a refusal leaves the result
-unfoldable pub report : Reply → List ℕ → List ℕ
-report placed result = set result 0 0
-report placedAndReady result = set result 0 1
-report ready result = set result 0 2
-report nothing result = set result 0 3
-report (refused n) result = result
-
-unfoldable pub kept : Reply → List ℕ → State → List ℕ
-kept placed image state = imageOf state
-kept placedAndReady image state = imageOf state
-kept ready image state = imageOf state
-kept nothing image state = imageOf state
-kept (refused n) image state = image
 
 unfoldable pub exported : Outcome → List ℕ → List ℕ → Exported
 exported o image result = record { status = status (o .answer); image = kept (o .answer) image (o .state); frame = o .frame; result = report (o .answer) result }

@@ -1,8 +1,8 @@
--- `board::receiving::put_place` meets its contract.
-use Rattle.board.specs.Receiver.{named}
+-- `answers::receiving::put_place` meets its contract.
+use Rattle.answers.specs.Receiver.{named}
 use borrow.Author.Needs.{needs}
-use Rattle.board.proofs.receiving.put_place.Statement.{statement}
-use Rattle.board.proofs.receiving.put_place.Tie as tie
+use Rattle.answers.proofs.receiving.put_place.Statement.{statement}
+use Rattle.answers.proofs.receiving.put_place.Tie as tie
 
 enum-told : tie.Need-enum-told
 enum-told c = search needs

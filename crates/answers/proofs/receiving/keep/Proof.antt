@@ -1,8 +1,8 @@
--- `board::receiving::keep` meets its contract.
-use Rattle.board.specs.Receiver.{kept}
+-- `answers::receiving::keep` meets its contract.
+use Rattle.answers.specs.Receiver.{kept}
 use borrow.Author.Needs.{needs}
-use Rattle.board.proofs.receiving.keep.Statement.{statement}
-use Rattle.board.proofs.receiving.keep.Tie as tie
+use Rattle.answers.proofs.receiving.keep.Statement.{statement}
+use Rattle.answers.proofs.receiving.keep.Tie as tie
 
 enum-told : tie.Need-enum-told
 enum-told c = search needs

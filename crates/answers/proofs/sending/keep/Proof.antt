@@ -1,9 +1,9 @@
--- `board::sending::keep` meets its contract.
+-- `answers::sending::keep` meets its contract.
 use Rattle.framing.specs.Answers.{reply}
-use Rattle.board.specs.Sender.{kept}
+use Rattle.answers.specs.Sender.{kept}
 use borrow.Author.Needs.{needs}
-use Rattle.board.proofs.sending.keep.Statement.{statement}
-use Rattle.board.proofs.sending.keep.Tie as tie
+use Rattle.answers.proofs.sending.keep.Statement.{statement}
+use Rattle.answers.proofs.sending.keep.Tie as tie
 
 enum-told : tie.Need-enum-told
 enum-told c = search needs

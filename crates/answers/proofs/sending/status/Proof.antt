@@ -1,9 +1,9 @@
--- `board::sending::status` meets its contract.
+-- `answers::sending::status` meets its contract.
 use Rattle.framing.specs.Answers.{reply}
-use Rattle.board.specs.Sender.{status}
+use Rattle.answers.specs.Sender.{status}
 use borrow.Author.Needs.{needs}
-use Rattle.board.proofs.sending.status.Statement.{statement}
-use Rattle.board.proofs.sending.status.Tie as tie
+use Rattle.answers.proofs.sending.status.Statement.{statement}
+use Rattle.answers.proofs.sending.status.Tie as tie
 
 enum-told : tie.Need-enum-told
 enum-told c = search needs

@@ -1,8 +1,8 @@
--- `board::receiving::put_report` meets its contract.
-use Rattle.board.specs.Receiver.{report}
+-- `answers::receiving::put_report` meets its contract.
+use Rattle.answers.specs.Receiver.{report}
 use borrow.Author.Needs.{needs}
-use Rattle.board.proofs.receiving.put_report.Statement.{statement}
-use Rattle.board.proofs.receiving.put_report.Tie as tie
+use Rattle.answers.proofs.receiving.put_report.Statement.{statement}
+use Rattle.answers.proofs.receiving.put_report.Tie as tie
 
 enum-known-answer : tie.Need-enum-known-answer
 enum-known-answer c = search needs

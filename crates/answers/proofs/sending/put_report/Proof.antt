@@ -1,9 +1,9 @@
--- `board::sending::put_report` meets its contract.
+-- `answers::sending::put_report` meets its contract.
 use Rattle.framing.specs.Answers.{reply}
-use Rattle.board.specs.Sender.{report}
+use Rattle.answers.specs.Sender.{report}
 use borrow.Author.Needs.{needs}
-use Rattle.board.proofs.sending.put_report.Statement.{statement}
-use Rattle.board.proofs.sending.put_report.Tie as tie
+use Rattle.answers.proofs.sending.put_report.Statement.{statement}
+use Rattle.answers.proofs.sending.put_report.Tie as tie
 
 enum-told : tie.Need-enum-told
 enum-told c = search needs

@@ -1,0 +1,3 @@
+// Answers for hosts in other languages: a number, the entries of an array, and the image of the state, which a refused call leaves.
+pub mod receiving;
+pub mod sending;
