@@ -124,20 +124,6 @@ fn row_of(image: &[u8], at: usize) -> Row
     }
 }
 
-fn rows_of(image: &[u8]) -> [Row; 16]
-    requires { ⌜ length (now image) ≡ imageSize ⌝ }
-    ensures { λ r. ⌜ r ≡ Spec.rowsOf windowSize (drop 8 (now (image .entry))) ⌝ }
-{
-    let free = row::empty_row(Phase::Free);
-    let mut rows = [free; 16];
-    let mut k = 0;
-    while k < 16 {
-        rows[k] = row_of(image, ROWS + k * ROW_SIZE);
-        k += 1;
-    }
-    rows
-}
-
 fn are_rows(image: &[u8]) -> bool
     requires { ⌜ length (now image) ≡ imageSize ⌝ }
     ensures { λ r. ⌜ r ≡ Spec.areRows windowSize (drop 8 (now (image .entry))) ⌝ }
@@ -162,15 +148,23 @@ pub fn is_image(image: &[u8]) -> bool
     false
 }
 
+// The rows are stored where they stay: an array of them that goes by value is copied.
 pub fn state_of(image: &[u8]) -> State
     requires { ⌜ length (now image) ≡ imageSize ⌝ }
     ensures { λ r. ⌜ r ≡ Spec.stateOf (now (image .entry)) ⌝ }
 {
-    State {
+    let free = row::empty_row(Phase::Free);
+    let mut state = State {
         present: image[0] == 1,
         greatest: octets::number_at(image, 4),
-        rows: rows_of(image),
+        rows: [free; 16],
+    };
+    let mut k = 0;
+    while k < 16 {
+        state.rows[k] = row_of(image, ROWS + k * ROW_SIZE);
+        k += 1;
     }
+    state
 }
 
 fn put_row(image: &mut [u8], at: usize, row: Row)
