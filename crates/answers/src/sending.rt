@@ -58,7 +58,10 @@ fn keep(image: &mut [u8], answer: Answer, state: State)
 // Keeps the state and reports the answer.
 pub fn finish(image: &mut [u8], sent: Sent, result: &mut [u64; 4]) -> u32
     requires { ⌜ length (now image) ≡ imageSize ⌝ }
-    ensures { λ r. ⌜ (r ≡ Spec.status (reply (sent .answer))) × (now (image .exit) ≡ Spec.kept (reply (sent .answer)) (now (image .entry)) (sent .state)) × (now (result .exit) ≡ Spec.report (reply (sent .answer)) (now (result .entry))) ⌝ }
+    ensures { λ r. ⌜
+        (r ≡ Spec.status (reply (sent .answer)))
+        × (now (image .exit) ≡ Spec.kept (reply (sent .answer)) (now (image .entry)) (sent .state))
+        × (now (result .exit) ≡ Spec.report (reply (sent .answer)) (now (result .entry))) ⌝ }
 {
     let answer = sent.answer;
     let next = sent.state;

@@ -27,7 +27,9 @@ pub extern "C" fn btpu_receive(
     output: &mut [u8],
     result: &mut [u64; 4],
 ) -> u32
-    ensures { λ r. ⌜ record { status = r; image = now (state .exit); pool = now (pool .exit); output = now (output .exit); result = now (result .exit) } ≡ Spec.received (now (state .entry)) (now (pool .entry)) (now (frame .entry)) place (now (output .entry)) (now (result .entry)) ⌝ }
+    ensures { λ r. ⌜
+        record { status = r; image = now (state .exit); pool = now (pool .exit); output = now (output .exit); result = now (result .exit) }
+        ≡ Spec.received (now (state .entry)) (now (pool .entry)) (now (frame .entry)) place (now (output .entry)) (now (result .entry)) ⌝ }
 {
     if images::receiving::is_image(&state[..]) {
         let s = images::receiving::state_of(&state[..]);

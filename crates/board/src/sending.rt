@@ -34,7 +34,9 @@ pub extern "C" fn btpu_place(
     frame: &mut [u8],
     result: &mut [u64; 4],
 ) -> u32
-    ensures { λ r. ⌜ record { status = r; image = now (state .exit); frame = now (frame .exit); result = now (result .exit) } ≡ Spec.placedBy (now (state .entry)) (now (bundle .entry)) (now (frame .entry)) (now (result .entry)) ⌝ }
+    ensures { λ r. ⌜
+        record { status = r; image = now (state .exit); frame = now (frame .exit); result = now (result .exit) }
+        ≡ Spec.placedBy (now (state .entry)) (now (bundle .entry)) (now (frame .entry)) (now (result .entry)) ⌝ }
 {
     if images::sending::is_image(&state[..]) {
         let s = images::sending::state_of(&state[..]);
@@ -47,7 +49,9 @@ pub extern "C" fn btpu_place(
 // Cancelling the transfer begun, on an image.
 #[no_mangle]
 pub extern "C" fn btpu_cancel(state: &mut [u8], frame: &mut [u8], result: &mut [u64; 4]) -> u32
-    ensures { λ r. ⌜ record { status = r; image = now (state .exit); frame = now (frame .exit); result = now (result .exit) } ≡ Spec.cancelledBy (now (state .entry)) (now (frame .entry)) (now (result .entry)) ⌝ }
+    ensures { λ r. ⌜
+        record { status = r; image = now (state .exit); frame = now (frame .exit); result = now (result .exit) }
+        ≡ Spec.cancelledBy (now (state .entry)) (now (frame .entry)) (now (result .entry)) ⌝ }
 {
     if images::sending::is_image(&state[..]) {
         let s = images::sending::state_of(&state[..]);
@@ -60,7 +64,9 @@ pub extern "C" fn btpu_cancel(state: &mut [u8], frame: &mut [u8], result: &mut [
 // Flushing, on an image.
 #[no_mangle]
 pub extern "C" fn btpu_flush(state: &mut [u8], frame: &mut [u8], result: &mut [u64; 4]) -> u32
-    ensures { λ r. ⌜ record { status = r; image = now (state .exit); frame = now (frame .exit); result = now (result .exit) } ≡ Spec.flushedBy (now (state .entry)) (now (frame .entry)) (now (result .entry)) ⌝ }
+    ensures { λ r. ⌜
+        record { status = r; image = now (state .exit); frame = now (frame .exit); result = now (result .exit) }
+        ≡ Spec.flushedBy (now (state .entry)) (now (frame .entry)) (now (result .entry)) ⌝ }
 {
     if images::sending::is_image(&state[..]) {
         let s = images::sending::state_of(&state[..]);

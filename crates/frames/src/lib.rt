@@ -72,7 +72,8 @@ pub fn run_frames<'a>(
         × (sumOf (now sizes) ≤ length (now octets))
         × (first + length (now sizes) ≤ 65536) ⌝ }
     ensures { λ r. ⌜
-        Frames.reached r (now (pool .exit)) (now (output .exit)) (now (lengths .exit)) (now (numbers .exit)) (now (places .exit)) (now (reasons .exit))
+        Frames.reached r (now (pool .exit)) (now (output .exit)) (now (lengths .exit)) (now (numbers .exit))
+        (now (places .exit)) (now (reasons .exit))
         ≡ Frames.through (draftOf state) (windowOf state) limits
         (Frames.setOut (Loop.going state (now (pool .entry)) (now (output .entry)) (now (lengths .entry)) (now (numbers .entry)) from)
         (now (places .entry)) (now (reasons .entry)) first)
@@ -87,7 +88,8 @@ pub fn run_frames<'a>(
     while more(k, sizes.len(), progress, limits, output.len()) {
         let n = sizes[k] as usize;
         let end = at + n;
-        let reason = reason_of(&octets[at..end], progress.next);
+        let pdu = &octets[at..end];
+        let reason = reason_of(pdu, progress.next);
         if 0 < reason {
             put_entry(places, refused, frame);
             put_entry(reasons, refused, reason);
@@ -98,16 +100,7 @@ pub fn run_frames<'a>(
             at = end;
             continue;
         }
-        let r = messages::run(
-            now,
-            pool,
-            &octets[at..end],
-            progress,
-            output,
-            lengths,
-            numbers,
-            limits,
-        );
+        let r = messages::run(now, pool, pdu, progress, output, lengths, numbers, limits);
         let next = r.state;
         now = next;
         let after = r.progress;

@@ -135,7 +135,10 @@ fn play_open<'a>(
     places: &mut [u32],
     reasons: &mut [u32],
 ) -> Answer
-    requires { ⌜ (length (now sizes) ≤ framesMax) × (sumOf (now sizes) ≤ length (now joined)) × (length (now joined) ≤ octetsMax) ⌝ }
+    requires { ⌜
+        (length (now sizes) ≤ framesMax)
+        × (sumOf (now sizes) ≤ length (now joined))
+        × (length (now joined) ≤ octetsMax) ⌝ }
     ensures { λ r. ⌜
         Call.reply r (now (pool .exit)) (Call.results (now (output .exit)) (now (lengths .exit)) (now (places .exit)) (now (reasons .exit)))
         ≡ Call.playFrames (record { lengths = now (sizes .entry); octets = now (joined .entry) }) limit (now (pool .entry))

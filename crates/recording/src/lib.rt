@@ -169,7 +169,9 @@ fn unwritable<'a>(lengths: &'a [u16], joined: &'a [u8]) -> Verdict
 
 // Frames from their lengths and their joined octets.
 pub fn write<'a>(lengths: &'a [u16], joined: &'a [u8], output: &mut [u8]) -> Writing
-    ensures { λ r. ⌜ _≡_ {A = Spec.Wrote} (record { answer = r; output = now (output .exit) }) (Spec.write (record { lengths = now (lengths .entry); octets = now (joined .entry) }) (now (output .entry))) ⌝ }
+    ensures { λ r. ⌜
+        _≡_ {A = Spec.Wrote} (record { answer = r; output = now (output .exit) })
+        (Spec.write (record { lengths = now (lengths .entry); octets = now (joined .entry) }) (now (output .entry))) ⌝ }
 {
     let v = unwritable(lengths, joined);
     if let Verdict::Unfit(refusal) = v {

@@ -85,14 +85,14 @@ cast-n c = omega (arith, c .shared-slice-known3 .given (here c .loop .k))
 add-end : tie.Need-add-end Inv-loop μ-loop
 add-end c = record { fits = omega (arith, within c, sized (start (here c))) }
 
-sub-reason-of : tie.Need-sub-reason-of Inv-loop μ-loop
-sub-reason-of c = omega arith
+sub-pdu : tie.Need-sub-pdu Inv-loop μ-loop
+sub-pdu c = omega arith
 
-part-reason-of-start : tie.Need-part-reason-of-start Inv-loop μ-loop
-part-reason-of-start c = omega (arith, within c)
+part-pdu-start : tie.Need-part-pdu-start Inv-loop μ-loop
+part-pdu-start c = omega (arith, within c)
 
-part-reason-of-end : tie.Need-part-reason-of-end Inv-loop μ-loop
-part-reason-of-end c = omega (arith, within c)
+part-pdu-end : tie.Need-part-pdu-end Inv-loop μ-loop
+part-pdu-end c = omega (arith, within c)
 
 reason-of-requires : tie.Need-reason-of-requires Inv-loop μ-loop
 reason-of-requires c κs = search needs
@@ -129,24 +129,15 @@ loop-again c =
 
 -- ---- a frame is taken
 
-sub-run : tie.Need-sub-run Inv-loop μ-loop
-sub-run c = omega arith
-
-part-run-start : tie.Need-part-run-start Inv-loop μ-loop
-part-run-start c = omega (arith, within (known (c .before .before)))
-
-part-run-end : tie.Need-part-run-end Inv-loop μ-loop
-part-run-end c = omega (arith, within (known (c .before .before)))
-
 run-requires : tie.Need-run-requires Inv-loop μ-loop
 run-requires c κs =
-    let r = c .before .before .before .before .before .before in
-    let f = fits (here (known r) .loop .inv) (test (known r)) _ (r .reason-of .ensures) (c .before .before .before .before .before .if2 .left) in
+    let r = c .before .before .before .before .before in
+    let f = fits (here (known r) .loop .inv) (test (known r)) _ (r .reason-of .ensures) (c .before .before .before .before .if2 .left) in
     (here (known r) .loop .inv .able, f .small, f .accepted)
 
 module _ (c : tie.After-run Inv-loop μ-loop) where
   abbrev admitted : tie.After-reason-of Inv-loop μ-loop
-  admitted = c .before .before .before .before .before .before .before
+  admitted = c .before .before .before .before .before .before
 
 module _ (c : tie.After-struct-known Inv-loop μ-loop) where
   abbrev left : tie.After-run Inv-loop μ-loop
@@ -166,7 +157,7 @@ loop-again-2 c =
     let t = left (c .before) in
     let r = admitted t in
     let s = t .run .kept in
-    passes (here (known r) .loop .inv) (test (known r)) _ (r .reason-of .ensures) (t .before .before .before .before .before .before .if2 .left) _ (t .run .ensures .0) (c .if3 .left) (t .run .ensures .1)
+    passes (here (known r) .loop .inv) (test (known r)) _ (r .reason-of .ensures) (t .before .before .before .before .before .if2 .left) _ (t .run .ensures .0) (c .if3 .left) (t .run .ensures .1)
     (record { pool = s .1 .0; output = s .1 .1 .1 .1 .0; lengths = s .1 .1 .1 .1 .1 .0; numbers = s .1 .1 .1 .1 .1 .1 .0 })
 
 -- ---- a frame is left before its end
@@ -193,7 +184,7 @@ returns-2 : tie.Need-returns-2 Inv-loop μ-loop
 returns-2 c =
     let t = left (c .before) in
     let r = admitted t in
-    stopped (here (known r) .loop .inv) (test (known r)) _ (r .reason-of .ensures) (t .before .before .before .before .before .before .if2 .left) _ (t .run .ensures .0) (c .if3 .taken)
+    stopped (here (known r) .loop .inv) (test (known r)) _ (r .reason-of .ensures) (t .before .before .before .before .before .if2 .left) _ (t .run .ensures .0) (c .if3 .taken)
 
 -- ---- the loop ends
 
@@ -230,9 +221,9 @@ run-frames-spec =
     shared-slice-read-n
     cast-n
     add-end
-    sub-reason-of
-    part-reason-of-start
-    part-reason-of-end
+    sub-pdu
+    part-pdu-start
+    part-pdu-end
     reason-of-requires
     put-entry-requires
     put-entry-requires-2
@@ -241,9 +232,6 @@ run-frames-spec =
     add-frame
     loop-less
     loop-again
-    sub-run
-    part-run-start
-    part-run-end
     run-requires
     add-k-2
     add-frame-2
