@@ -5,7 +5,7 @@ use Prim.Native.Nat.{ℕ, _+_, _*_, _≤_, _<_}
 use native.Mathlib.Omega.{arith}
 use lib.ListN.{length, getD, take, drop, set}
 use lib.Seq.{getD-set-same}
-use Rattle.octets.specs.Octets.{put}
+use Rattle.octets.specs.Octets.{Octets, put}
 use Rattle.octets.proofs.Put.{read-back}
 use Rattle.recording.specs.declared.Writing.{Writing}
 use Rattle.recording.specs.declared.Writing.the-variants.{Written, Refused}
@@ -44,7 +44,7 @@ module _ (sizes joined output result : List ℕ) (four : 0 < length result) wher
       go (Refused f) q z = absurd (omega (arith, number-some f))
 
 -- "and writing what was read, give the same back"
-module _ (xs : List ℕ) (low : (k : ℕ) → getD xs k 0 < 256) (sizes result : List ℕ) where
+module _ (xs : List ℕ) (low : Octets xs) (sizes result : List ℕ) where
   abbrev o : Opened
   o = opened xs sizes result
 

@@ -8,7 +8,7 @@ use Prim.Native.Nat.{ℕ, zero, suc, _+_, _*_, _≤_, _<_, _^_}
 use native.Mathlib.Numerals.{add-one}
 use native.Mathlib.Omega.{arith}
 use lib.ListN.{length, getD, take, drop, set}
-use Rattle.octets.specs.Octets.{number16, be16, pairs, spread, put}
+use Rattle.octets.specs.Octets.{Octets, number16, be16, pairs, spread, put}
 use Rattle.octets.proofs.Numbers.{length-be16, number16-be16, be16-back}
 use Rattle.octets.proofs.Series.{read-last, read-turn, read-end, write-turn, write-end, length-items}
 
@@ -52,7 +52,7 @@ unfolding pairs
 length-pairs zero xs = refl
 length-pairs (suc n) xs = ap suc (length-pairs n (drop 2 xs))
 
-pub spread-back : (n : ℕ) (xs : List ℕ) → ((k : ℕ) → getD xs k 0 < 256) → n * 2 ≤ length xs → spread (pairs n xs) ≡ take (n * 2) xs
+pub spread-back : (n : ℕ) (xs : List ℕ) → Octets xs → n * 2 ≤ length xs → spread (pairs n xs) ≡ take (n * 2) xs
 unfolding pairs spread
 spread-back zero xs low h = refl
 spread-back (suc n) [] low h = absurd (omega arith)

@@ -8,6 +8,7 @@
 --     put-put        a put behind a put is one put of the two joined; put-behind: where the second may reach beyond the end
 --     put-part       a turn of a loop that copies in parts; put-all: its end
 --     put-next       a store behind what was put; put-one: a store; set-beyond: a store behind the end
+--     octets-put     a put of octets into octets
 -- Assumes nothing.
 use mathlib.Core.Path.{_≡_, refl, sym, ap, _∙_}
 use mathlib.Core.List.{List, [], _∷_, _++_, append-assoc, append-nil}
@@ -17,7 +18,8 @@ use native.Mathlib.Nat.{add-assoc, add-zero, zero-add}
 use native.Mathlib.Omega.{arith}
 use lib.ListN.{length, take, drop, set, getD, length-append, length-take, length-drop, take-append-drop}
 use lib.Seq.{set-split, drop-cons, append-snoc, set-append-seam, take-all, take-add, sets-eq, paste, paste-suc, take-length, drop-length, length-take-le, take-at, drop-at, drop-drop}
-use Rattle.octets.specs.Octets.{put}
+use Rattle.octets.specs.Octets.{Octets, put}
+use Rattle.octets.proofs.Numbers.{octets-drop, octets-take, octets-append}
 
 pub put-two : (l : List ℕ) (at a b : ℕ) → at + 2 ≤ length l → set (set l at a) (at + 1) b ≡ put l at (a ∷ b ∷ [])
 unfolding put
@@ -98,3 +100,8 @@ pub set-beyond : (xs : List ℕ) (k x : ℕ) → length xs ≤ k → xs ≡ set 
 set-beyond [] k x h = refl
 set-beyond (y ∷ ys) zero x h = absurd (omega arith)
 set-beyond (y ∷ ys) (suc k) x h = ap (λ (zs : List ℕ). y ∷ zs) (set-beyond ys k x (omega arith))
+
+pub octets-put : (d : List ℕ) (at : ℕ) (s : List ℕ) → Octets d → Octets s → Octets (put d at s)
+unfolding put
+octets-put d at s p q =
+    octets-append (take at d ++ s) (drop (at + length s) d) (octets-append (take at d) s (octets-take at d p) q) (octets-drop (at + length s) d p)

@@ -1,7 +1,11 @@
 -- Runs of octets: a number read and written, and a run written at an offset (document 01: "Numbers are big-endian").
 use mathlib.Core.List.{List, [], _∷_, _++_}
-use Prim.Native.Nat.{ℕ, zero, suc, _+_, _*_, _/_, _%_}
+use Prim.Native.Nat.{ℕ, zero, suc, _+_, _*_, _/_, _%_, _<_}
 use lib.ListN.{length, getD, take, drop}
+
+-- each is an octet
+abbrev pub Octets : List ℕ → Type 0
+Octets xs = (k : ℕ) → getD xs k 0 < 256
 
 -- the number of 32 bits at the head
 unfoldable pub number : List ℕ → ℕ

@@ -54,7 +54,7 @@ module _ (D : Draft) (w : ℕ) where
       go none e (stops pre j suf h q a t hs r) = stops (i ∷ pre) j suf h (ap (λ l. i ∷ l) q) (rw e a) (rw e t) (rw e hs) (rw e r)
       go (some h) e r = stops [] i is h refl (rw e) (rw e (take-append-seam (h .octets) (drop (0 + length (h .octets)) output))) (rw e) (rw e)
 
-  treat-answers : {A : Type 0} (b : Board) (is : List Item) (output : List ℕ) (r : Refusal) → treat D w b is output .answer ≡ Refused r → A
+  pub treat-answers : {A : Type 0} (b : Board) (is : List Item) (output : List ℕ) (r : Refusal) → treat D w b is output .answer ≡ Refused r → A
   treat-answers {A} b is output r e = go (treating b is output)
     where
       go : Treated b is output → A

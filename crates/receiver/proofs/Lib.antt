@@ -4,6 +4,7 @@
 --     Pool       cells after one of them is put
 --     Ready      every message and every call leaves a sound state sound
 --     Calls      a receiving call by cases
+--     Bounds     the place that a refusal names, and the greatest number, lie within bounds
 --     Reserved   reserved flag bits are ignored
 --     Weight     no octet is handed out twice
 pub mod Limit
@@ -11,5 +12,6 @@ pub mod Refusals
 pub mod Pool
 pub mod Ready
 pub mod Calls
+pub mod Bounds
 pub mod Reserved
 pub mod Weight

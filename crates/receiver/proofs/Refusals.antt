@@ -9,7 +9,7 @@ use native.Mathlib.Omega.{arith}
 use lib.Dec.{eqb, ltb}
 use lib.ListN.{length}
 use borrow.Author.Tests.{eqb-true, eqb-false, ltb-false, not-false}
-use Rattle.octets.proofs.Flags.{bool, neither}
+use Rattle.octets.proofs.Flags.{bool, neither, cond-elim}
 use Rattle.octets.proofs.Cases.{first}
 use Rattle.wire.specs.Frame.{checked, frameMax}
 use Rattle.wire.specs.Message.{faultNumber}
@@ -136,6 +136,31 @@ never-five (Malformed PastFrame at) e = omega arith
 never-five (Malformed PastMessage at) e = omega arith
 never-five (Malformed BadContent at) e = omega arith
 never-five Misplaced e = omega arith
+
+-- a sound state is not refused with 1
+abbrev NotOne : Option Refusal → Type 0
+NotOne none = Unit {0}
+NotOne (some q) = refusalNumber q ≡ 1 → ⊥
+
+frame-not-one : (c : Checked) → NotOne (frameRefusal c)
+unfolding frameRefusal
+frame-not-one Frame.Accepted = tt
+frame-not-one (Frame.Malformed ShortHeader at) = λ e. omega arith
+frame-not-one (Frame.Malformed PastFrame at) = λ e. omega arith
+frame-not-one (Frame.Malformed PastMessage at) = λ e. omega arith
+frame-not-one (Frame.Malformed BadContent at) = λ e. omega arith
+frame-not-one Frame.Misplaced = λ e. omega arith
+
+pub sound-not-one : (D : Draft) (w : ℕ) (b : Board) (frame : List ℕ) (place : ℕ) (output : List ℕ) → sound (b .state) ≡ true
+    → (q : Refusal) → refusal D w b frame place output ≡ some q → refusalNumber q ≡ 1 → ⊥
+unfolding refusal
+sound-not-one D w b frame place output ok q e =
+    let go : NotOne (refusal D w b frame place output) =
+    rw ok
+    (cond-elim NotOne (not (eqb (length (b .pool)) (w * bundleMax)) || ltb (length output) bundleMax) (λ _ e. omega arith)
+    λ _. cond-elim NotOne (eqb (length frame) 0 || ltb frameMax (length frame)) (λ _ e. omega arith)
+    λ _. frame-not-one (checked (D .read) frame place)) in
+    rw e at go
 
 frame-order : (c : Checked) → numberOf (frameRefusal c) ≡ first (frameCases c)
 unfolding first frameRefusal

@@ -39,6 +39,11 @@ refusalPlace FrameSize = none
 refusalPlace (Malformed fault place) = some place
 refusalPlace Misplaced = none
 
+-- 0 for none
+abbrev pub named : Option ℕ → ℕ
+named none = 0
+named (some place) = place
+
 -- what a call answers, and the state, the pool and the output that it leaves
 pub record Reply : Type 0 where
   pub answer : Answer

@@ -9,10 +9,10 @@ use lib.ListN.{length, getD, take, drop, length-take, length-drop}
 use lib.Seq.{drop-at, take-add, take-all, take-length, drop-drop, getD-drop}
 use lib.Dec.{ltb}
 use borrow.Author.Tests.{ltb-false, le-ltb}
-use Rattle.octets.specs.Octets.{number, be32, pairs, spread, put}
+use Rattle.octets.specs.Octets.{Octets, number, be32, pairs, spread, put}
 use Rattle.octets.proofs.Flags.{cond-elim}
 use Rattle.octets.proofs.Put.{read-back}
-use Rattle.octets.proofs.Numbers.{number-be32, length-be32, be32-back}
+use Rattle.octets.proofs.Numbers.{octets-drop, number-be32, length-be32, be32-back}
 use Rattle.octets.proofs.Pairs.{length-spread, length-pairs, pairs-back, spread-back}
 use Rattle.recording.specs.declared.Refusal.{Refusal}
 use Rattle.recording.specs.declared.Writing.the-variants.{Written}
@@ -99,23 +99,20 @@ reads xs r =
     let high : length xs ≤ 8 + n * 2 + m = ltb-false (8 + n * 2 + m) (length xs) (w .1) in
     record { counts = record { frames = refl; few = ltb-false framesMax n few; octets = refl; small = ltb-false octetsMax m small; there = low }; even = w .0; full = omega arith; same = w .2 })))))
 
-module _ (xs : List ℕ) (low : (k : ℕ) → getD xs k 0 < 256) (n m : ℕ) (r : Recording) (R : Reads xs n m r) where
+module _ (xs : List ℕ) (low : Octets xs) (n m : ℕ) (r : Recording) (R : Reads xs n m r) where
   lengths-size : length (parts xs n m .lengths) ≡ n
   lengths-size = length-pairs n (drop 4 xs)
 
   octets-size : length (parts xs n m .octets) ≡ m
   octets-size = rw (length-take, length-drop) (omega (arith, R .full))
 
-  low-from : (j k : ℕ) → getD (drop j xs) k 0 < 256
-  low-from j k = rw (getD-drop j xs k 0) (low (j + k))
-
   again : written (parts xs n m) ≡ xs
   unfolding written
   again =
       let c = R .counts in
       let first : be32 n ≡ take 4 xs = rw (c .frames) (be32-back xs low (omega (arith, R .full))) in
-      let ls : spread (pairs n (drop 4 xs)) ≡ take (n * 2) (drop 4 xs) = spread-back n (drop 4 xs) (low-from 4) (rw length-drop (omega (arith, R .full))) in
-      let second : be32 m ≡ take 4 (drop (4 + n * 2) xs) = rw (c .octets) (be32-back (drop (4 + n * 2) xs) (low-from (4 + n * 2)) (rw length-drop (omega (arith, R .full)))) in
+      let ls : spread (pairs n (drop 4 xs)) ≡ take (n * 2) (drop 4 xs) = spread-back n (drop 4 xs) (octets-drop 4 xs low) (rw length-drop (omega (arith, R .full))) in
+      let second : be32 m ≡ take 4 (drop (4 + n * 2) xs) = rw (c .octets) (be32-back (drop (4 + n * 2) xs) (octets-drop (4 + n * 2) xs low) (rw length-drop (omega (arith, R .full)))) in
       let e : (4 + n * 2) + 4 ≡ 8 + n * 2 = omega arith in
       let all : take (8 + n * 2 + m) xs ≡ xs = take-all (8 + n * 2 + m) xs (omega (arith, R .full)) in
       rw (lengths-size, octets-size, first, ls, second, ← take-add 4 (n * 2) xs, ← take-add (4 + n * 2) 4 xs, e, ← take-add (8 + n * 2) m xs) all
@@ -143,7 +140,7 @@ read-written r output n a =
     let w = wrote r output n a in
     rw (w .1, read-back output (write r output .output) (written r) (w .2)) (back r (writable r (w .0)))
 
-write-read : (xs : List ℕ) → ((k : ℕ) → getD xs k 0 < 256) → (r : Recording) → read xs ≡ good r → (output : List ℕ) → length xs ≤ length output → write r output ≡ record { answer = Written (length xs); output = put output 0 xs }
+write-read : (xs : List ℕ) → Octets xs → (r : Recording) → read xs ≡ good r → (output : List ℕ) → length xs ≤ length output → write r output ≡ record { answer = Written (length xs); output = put output 0 xs }
 unfolding write writes
 write-read xs low r e output room =
     let R = reads xs r e in

@@ -6,7 +6,7 @@ use mathlib.Core.Path.{_≡_}
 use Prim.Native.Nat.{ℕ, _+_, _*_, _≤_, _<_}
 use lib.ListN.{length, getD, take, drop, replicate}
 use lib.Dec.{ltb, leb, eqb}
-use Rattle.octets.specs.Octets.{number, be32, pairs, spread, put, sumOf}
+use Rattle.octets.specs.Octets.{Octets, number, be32, pairs, spread, put, sumOf}
 use Rattle.wire.specs.Frame.{frameMax}
 use Rattle.recording.specs.declared.Opened.{Opened}
 use Rattle.recording.specs.declared.Opening.the-variants.{Good, Unreadable}
@@ -114,5 +114,5 @@ write r output = writes (unwritable r) r output
 
 pub record RoundTrips : Type 0 where
   pub written-reads : (r : Recording) (output : List ℕ) (n : ℕ) → write r output .answer ≡ Written n → read (take n (write r output .output)) ≡ good r
-  pub read-writes : (xs : List ℕ) → ((k : ℕ) → getD xs k 0 < 256) → (r : Recording) → read xs ≡ good r
+  pub read-writes : (xs : List ℕ) → Octets xs → (r : Recording) → read xs ≡ good r
       → (output : List ℕ) → length xs ≤ length output → write r output ≡ record { answer = Written (length xs); output = put output 0 xs }

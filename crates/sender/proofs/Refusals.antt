@@ -1,11 +1,13 @@
 -- The refusals of the sending calls (document 01, "Numbers of refusal").
 --     place-first, cancel-first, flush-first, start-first     a call's number of refusal is that of the first case that applies
 --     place-refused, cancel-refused, flush-refused     a refused call gives back state and frame as they were
+--     place-some, cancel-some, flush-some     a refusal's number is not 0
 --     place-numbers, cancel-numbers, flush-numbers     the cases stand in the paper's order
-use mathlib.Core.Path.{_≡_, refl, sym, _∙_}
+use mathlib.Core.Path.{_≡_, refl, sym, ap, _∙_}
 use mathlib.Core.Bool.{true, false, cond, false≢true}
 use mathlib.Core.List.{List, [], _∷_}
-use Prim.Native.Nat.{ℕ, _+_}
+use Prim.Native.Nat.{ℕ, _+_, _<_}
+use native.Mathlib.Omega.{arith}
 use lib.ListN.{length}
 use lib.Dec.{eqb}
 use Rattle.octets.proofs.Flags.{cond-elim}
@@ -45,6 +47,10 @@ no-number ready g = refl
 no-number nothing g = refl
 no-number (refused n) g = absurd (false≢true (sym g))
 
+abbrev Positive : List Case → Type 0
+Positive [] = Unit {0}
+Positive (refusal n applies ∷ cs) = (0 < n) × Positive cs
+
 module _ (s : State) (d : List ℕ) (o : Outcome) (g : Carried o) where
   unless-first : (cs : List Case) → replyNumber (unless cs s d o .answer) ≡ firstOf cs
   unfolding unless firstOf replyNumber
@@ -58,6 +64,12 @@ module _ (s : State) (d : List ℕ) (o : Outcome) (g : Carried o) where
   unless-refused (refusal n true ∷ cs) e = (refl, refl)
   unless-refused (refusal n false ∷ cs) e = unless-refused cs e
 
+  unless-some : (cs : List Case) → Positive cs → (n : ℕ) → unless cs s d o .answer ≡ refused n → 0 < n
+  unfolding unless isRefusal
+  unless-some [] p n e = absurd (false≢true (sym g ∙ ap isRefusal e))
+  unless-some (refusal k true ∷ cs) p n e = let same : k ≡ n = cc in omega (arith, p .0)
+  unless-some (refusal k false ∷ cs) p n e = unless-some cs (p .1) n e
+
 module _ (s : State) (b d : List ℕ) where
   pub place-first : replyNumber (place s b d .answer) ≡ firstOf (placeCases s b d)
   unfolding place
@@ -66,6 +78,10 @@ module _ (s : State) (b d : List ℕ) where
   pub place-refused : isRefusal (place s b d .answer) ≡ true → (place s b d .state ≡ s) × (place s b d .frame ≡ d)
   unfolding place
   place-refused = unless-refused s d _ (carried-placing s b d) (placeCases s b d)
+
+  pub place-some : (n : ℕ) → place s b d .answer ≡ refused n → 0 < n
+  unfolding place placeCases
+  place-some n = unless-some s d _ (carried-placing s b d) (placeCases s b d) (omega arith, (omega arith, (omega arith, (omega arith, tt)))) n
 
 module _ (s : State) (d : List ℕ) where
   pub cancel-first : replyNumber (cancel s d .answer) ≡ firstOf (cancelCases s d)
@@ -76,6 +92,10 @@ module _ (s : State) (d : List ℕ) where
   unfolding cancel
   cancel-refused = unless-refused s d _ (carried-added (ended s) (cancelling (s .number)) d) (cancelCases s d)
 
+  pub cancel-some : (n : ℕ) → cancel s d .answer ≡ refused n → 0 < n
+  unfolding cancel cancelCases
+  cancel-some n = unless-some s d _ (carried-added (ended s) (cancelling (s .number)) d) (cancelCases s d) (omega arith, (omega arith, (omega arith, tt))) n
+
   pub flush-first : replyNumber (flush s d .answer) ≡ firstOf (flushCases s d)
   unfolding flush
   flush-first = unless-first s d _ (carried-flush s d) (flushCases s d)
@@ -83,6 +103,10 @@ module _ (s : State) (d : List ℕ) where
   pub flush-refused : isRefusal (flush s d .answer) ≡ true → (flush s d .state ≡ s) × (flush s d .frame ≡ d)
   unfolding flush
   flush-refused = unless-refused s d _ (carried-flush s d) (flushCases s d)
+
+  pub flush-some : (n : ℕ) → flush s d .answer ≡ refused n → 0 < n
+  unfolding flush flushCases
+  flush-some n = unless-some s d _ (carried-flush s d) (flushCases s d) (omega arith, (omega arith, tt)) n
 
 pub start-first : (p n : ℕ) → startNumber (start p n) ≡ cond (sized p) 0 14
 unfolding start startNumber

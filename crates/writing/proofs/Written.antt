@@ -4,6 +4,7 @@
 --     read-padding     any padding, up to the frame's end
 --     length-written, length-piece, length-padding     their sizes
 --     header-put, piece-put, padding-put     the stores that write them
+--     octets-bundle, octets-piece, octets-cancel, octets-padding     they are octets
 use mathlib.Core.Path.{_≡_, refl, ap, _∙_}
 use mathlib.Core.Bool.{Bool, true, false}
 use mathlib.Core.List.{List, [], _∷_, _++_, append-nil}
@@ -13,10 +14,10 @@ use lib.ListN.{length, length-append, replicate, length-replicate}
 use lib.Seq.{take-append-seam}
 use lib.Dec.{leb}
 use borrow.Author.Tests.{le-ltb, lt-leb, le-leb, leb-true}
-use Rattle.octets.specs.Octets.{be32, put}
+use Rattle.octets.specs.Octets.{Octets, be32, put}
 use Rattle.octets.proofs.Flags.{cond-elim}
 use Rattle.octets.proofs.Put.{put-put}
-use Rattle.octets.proofs.Numbers.{number-be32}
+use Rattle.octets.proofs.Numbers.{number-be32, octets-append, octets-zeros, octets-be32}
 use Rattle.wire.specs.declared.Kind.{Kind}
 use Rattle.wire.specs.declared.Kind.the-variants.{Skipped, Bundle, Segment, End, Cancel}
 use Rattle.wire.specs.Message.{Message, skipped, bundle, segment, last, cancel, good, contentLength, kind}
@@ -72,17 +73,17 @@ kind-type Segment = refl
 kind-type End = refl
 kind-type Cancel = refl
 
-typed : (k : Kind) → 0 < typeOf k
-typed Skipped = omega arith
-typed Bundle = omega arith
-typed Segment = omega arith
-typed End = omega arith
-typed Cancel = omega arith
+typed : (k : Kind) → (0 < typeOf k) × (typeOf k < 256)
+typed Skipped = (omega arith, omega arith)
+typed Bundle = (omega arith, omega arith)
+typed Segment = (omega arith, omega arith)
+typed End = (omega arith, omega arith)
+typed Cancel = (omega arith, omega arith)
 
 header-back : (k : Kind) (c rest : List ℕ) → length c < 2 ^ 20 → fitting k (length c) ≡ true → read (header k (length c) ++ c ++ rest) ≡ good (message k c) (4 + length c)
 unfolding header
 header-back k c rest h f =
-    rw (kind-type k) at (written-back (typeOf k) (length c / 65536) (length c / 256 % 256) (length c % 256) c rest (typed k) (omega arith) (omega arith) (rw (kind-type k) f))
+    rw (kind-type k) at (written-back (typeOf k) (length c / 65536) (length c / 256 % 256) (length c % 256) c rest (typed k .0) (omega arith) (omega arith) (rw (kind-type k) f))
 
 -- A message whose numbers have 32 bits and whose length field has 20.
 pub data Writable : Message → Type 0 where
@@ -193,3 +194,35 @@ module _ (d : List ℕ) (at : ℕ) where
   pub padding-put : (r : ℕ) → 4 ≤ r → at + r ≤ length d → put (put d at (header Skipped (r - 4))) (at + 4) (replicate (r - 4) 0) ≡ put d at (padding r)
   unfolding padding
   padding-put r h k = rw (le-leb 4 r h) (header-put Skipped (r - 4) (replicate (r - 4) 0) (rw (length-replicate {A = ℕ} (r - 4) 0) (omega arith)))
+
+-- ---- octets
+
+octets-header : (k : Kind) (n : ℕ) → n < 2 ^ 20 → Octets (header k n)
+unfolding header
+octets-header k n h zero = typed k .1
+octets-header k n h (suc zero) = omega arith
+octets-header k n h (suc (suc zero)) = omega arith
+octets-header k n h (suc (suc (suc zero))) = omega arith
+octets-header k n h (suc (suc (suc (suc i)))) = omega arith
+
+pub octets-bundle : (b : List ℕ) → length b < 2 ^ 20 → Octets b → Octets (written (bundle b))
+unfolding written kind contentLength contentOf
+octets-bundle b h low = octets-append (header Bundle (length b)) b (octets-header Bundle (length b) h) low
+
+pub octets-piece : (e : Bool) (n i : ℕ) (b : List ℕ) → n < 2 ^ 32 → i < 2 ^ 32 → 8 + length b < 2 ^ 20 → Octets b → Octets (written (piece e n i b))
+octets-piece e n i b p q h low =
+    let k : Kind = pieceKind e in
+    rw (written-piece e n i b)
+    (octets-append (header k (8 + length b)) (be32 n ++ be32 i ++ b) (octets-header k (8 + length b) h)
+    (octets-append (be32 n ++ be32 i) b (octets-append (be32 n) (be32 i) (octets-be32 n p) (octets-be32 i q)) low))
+
+pub octets-cancel : (n : ℕ) → n < 2 ^ 32 → Octets (written (cancel n))
+unfolding written kind contentLength contentOf
+octets-cancel n h = octets-append (header Cancel 4) (be32 n) (octets-header Cancel 4 (omega arith)) (octets-be32 n h)
+
+pub octets-padding : (r : ℕ) → r < 2 ^ 20 → Octets (padding r)
+unfolding padding
+octets-padding r h =
+    cond-elim Octets (leb 4 r)
+    (λ _. octets-append (header Skipped (r - 4)) (replicate (r - 4) 0) (octets-header Skipped (r - 4) (omega arith)) (octets-zeros (r - 4)))
+    λ _. octets-zeros r
