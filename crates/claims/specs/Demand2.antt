@@ -22,11 +22,14 @@ pub record Flushed (fs : List (List ℕ)) (bs : List Handed) : Type 0 where
   pub idle : state .begun ≡ false
 
 -- "A frame is taken to its end by calling from place 0, then from each next place answered, until Finished; state and pool go back as they
--- were left, for the next frame too (demand 2 as well)."
-pub record Demand2 (w : ℕ) : Type 0 where
+-- were left, for the next frame too (demand 2 as well)." Sends says which frames and bundles a sender has, Takes which entries a board.
+pub record Arrival (Sends : List (List ℕ) → List Handed → Type 0) (B : Type 0) (Started : B → Type 0) (Takes : B → List Entry → Type 0) : Type 0 where
   -- whatever calls are refused between, the board hands out exactly the bundles placed to their end, in order: octets, length, and number or none
-  pub arrives : (fs : List (List ℕ)) (bs : List Handed) → Flushed fs bs → (b : Board) → Fresh w b → (es : List Entry) → Calls draft02 w b es
+  pub arrives : (fs : List (List ℕ)) (bs : List Handed) → Sends fs bs → (b : B) → Started b → (es : List Entry) → Takes b es
       → map (λ (e : Entry). e .frame) es ≡ fs → handedOf es ≡ map (λ (h : Handed). delivery (h .origin) (h .octets)) bs
   -- and every fresh board can take these frames
-  pub exists : (fs : List (List ℕ)) (bs : List Handed) → Flushed fs bs → (b : Board) → Fresh w b
-      → (es : List Entry) × Calls draft02 w b es × (map (λ (e : Entry). e .frame) es ≡ fs)
+  pub exists : (fs : List (List ℕ)) (bs : List Handed) → Sends fs bs → (b : B) → Started b
+      → (es : List Entry) × Takes b es × (map (λ (e : Entry). e .frame) es ≡ fs)
+
+abbrev pub Demand2 : ℕ → Type 0
+Demand2 w = Arrival Flushed Board (Fresh w) (Calls draft02 w)

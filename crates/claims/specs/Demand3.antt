@@ -92,13 +92,16 @@ module _ {D : Draft} (R : Record D) where
     pub calls : Calls D w board es
     pub drawn : (e : Entry) → List·Memᴰ e es → List·Memᴰ (e .frame) (R .frames)
 
-  -- Two boards, of windows w₁ and w₂; in document 01 both are 16.
-  pub record Demand3 (w₁ w₂ : ℕ) : Type 0 where
+  -- The claim about the lists of two boards: P and Q say which lists those are, n how far behind a message may come on the second.
+  pub record Claim (P Q : List Entry → Type 0) (n : ℕ) : Type 0 where
     -- a board hands out only bundles of the record
-    pub onlyBundles : (x : List Entry) → Reception w₁ x → (h : Delivery) → List·Memᴰ h (handedOf x) → OfRecord h
+    pub onlyBundles : (x : List Entry) → P x → (h : Delivery) → List·Memᴰ h (handedOf x) → OfRecord h
     -- and no transfer twice
-    pub noneTwice : (x : List Entry) → Reception w₁ x → NoTransferTwice (handedOf x)
+    pub noneTwice : (x : List Entry) → P x → NoTransferTwice (handedOf x)
     -- More reception never costs a transfer, where the further frames hold no cancel and on the second board no transfer message comes more
-    -- than the window less one, in document 01 15, behind one already come.
-    pub moreNeverCosts : (x y : List Entry) → Reception w₁ x → Reception w₂ y → (f : With (NoCancel D) x y)
-        → NoneBehind (w₂ - 1) (places (T .first) (messagesOf D y)) → Kept [] [] f
+    -- than n behind one already come.
+    pub moreNeverCosts : (x y : List Entry) → P x → Q y → (f : With (NoCancel D) x y) → NoneBehind n (places (T .first) (messagesOf D y)) → Kept [] [] f
+
+  -- Boards of windows w₁ and w₂, and the second window less one; in document 01 both are 16.
+  abbrev pub Demand3 : ℕ → ℕ → Type 0
+  Demand3 w₁ w₂ = Claim (Reception w₁) (Reception w₂) (w₂ - 1)
