@@ -7,21 +7,24 @@
  *
  * Memory. The library allocates nothing and keeps nothing. The caller lends every octet for the
  * time of a call: the image of the state, the pool, the frame, the output. What is lent must be
- * valid for the length given, and what a call may write to must not overlap with anything else
- * that is lent to it. No pointer may be NULL, also not with a length of 0. Calls with different
- * images and buffers may run at the same time. A call takes up to BTPU_STACK octets of the stack,
- * btpu_play up to BTPU_PLAY_STACK.
+ * valid for the length given, or for the length in its declaration, and what a call may write to
+ * must not overlap with anything else that is lent to it. A pointer that comes with a length of 0
+ * may be NULL. Lengths have 64 bits also where addresses have 32. Calls with different images and
+ * buffers may run at the same time. A call takes up to BTPU_STACK octets of the stack, btpu_play
+ * up to BTPU_PLAY_STACK.
  *
- * Answers. Every function returns 0, or the number of a refusal (BTPU_REFUSED_...). The first
- * refusal that applies is given, in the order of the numbers unless a function names another. A
- * refused call changes nothing that was lent, with one exception: refusals 4 to 8 write the place
- * of the bad message to result[BTPU_PLACE]. Entries of `result` that carry no meaning for an
- * answer stay as they were.
+ * Answers. Every function returns 0, or a refusal: BTPU_REFUSAL of it is the refusal's number
+ * (BTPU_REFUSED_...), and for 4 to 8 BTPU_REFUSAL_PLACE of it is where in the frame the bad
+ * message starts. The first refusal that applies is given, in the order of the numbers unless a
+ * function names another. A refused call changes nothing that was lent; `result` is written only
+ * where a call is carried out. Entries of it that carry no meaning for an answer stay as they were.
  *
  * Images. The state of a receiver or a sender is an image of a fixed number of octets. Let
- * btpu_receiver_start or btpu_sender_start write it first, and hand it back as it was left. It may
- * be stored and used again later, together with the receiver's pool, or the sender's frame. All
- * numbers in an image are big-endian. A call refuses an image that is not a sound state.
+ * btpu_receiver_start or btpu_sender_start write it first, and hand it back as it was left: no call
+ * refuses it then as unsound. It may be stored and used again later, together with the receiver's
+ * pool, or the sender's frame; btpu_receiver_check and btpu_sender_check say whether a stored image
+ * is good. All numbers in an image are big-endian. A call refuses an image that is not a sound
+ * state.
  *
  * Receiver image, BTPU_RECEIVER_IMAGE octets:
  *
@@ -62,7 +65,6 @@
 #ifndef BTPU_H
 #define BTPU_H
 
-#include <stddef.h>
 #include <stdint.h>
 
 #ifdef __cplusplus
@@ -99,7 +101,7 @@ extern "C" {
 
 #define BTPU_ANSWER 0 /* which answer: BTPU_FINISHED and so on */
 #define BTPU_LENGTH 1 /* of a bundle: its length in the output */
-#define BTPU_PLACE 2  /* of a bundle: the next place; of refusals 4 to 8: the bad message's start */
+#define BTPU_PLACE 2  /* of a bundle: the next place */
 #define BTPU_NUMBER 3 /* of a bundle: its transfer number, or BTPU_NO_NUMBER */
 
 #define BTPU_WRITTEN 0 /* btpu_record: octets written */
@@ -129,9 +131,14 @@ extern "C" {
 #define BTPU_READY 2            /* the frame was closed by padding: send it; nothing was placed */
 #define BTPU_NOTHING 3          /* there was nothing to flush */
 
+/* What a call returns, taken apart: the refusal's number, or 0; the place for 4 to 8, else 0 */
+
+#define BTPU_REFUSAL(returned) ((returned) & UINT32_C(255))
+#define BTPU_REFUSAL_PLACE(returned) ((returned) >> 8)
+
 /* Refusals */
 
-#define BTPU_REFUSED_STATE 1         /* all calls: not a sound state, or an image of wrong length */
+#define BTPU_REFUSED_STATE 1         /* not a sound state: all calls with an image but the starts */
 #define BTPU_REFUSED_LENT 2          /* receive: pool not 65,536 octets, or output below 4,096;
                                         play: pool not 65,536 octets */
 #define BTPU_REFUSED_FRAME_LENGTH 3  /* receive: frame of 0 or more than 2,048 octets */
@@ -158,9 +165,15 @@ extern "C" {
 
 /*
  * Writes the image of a fresh receiver. The old content of the image does not matter.
- * Refusal: 1 if state_len is not BTPU_RECEIVER_IMAGE.
+ * Refusals: none.
  */
-uint32_t btpu_receiver_start(uint8_t *state, size_t state_len);
+uint32_t btpu_receiver_start(uint8_t state[BTPU_RECEIVER_IMAGE]);
+
+/*
+ * Whether an image is a sound state, for a host that restores a stored one.
+ * Refusal: 1.
+ */
+uint32_t btpu_receiver_check(const uint8_t state[BTPU_RECEIVER_IMAGE]);
 
 /*
  * Treats the messages of a frame from `place` on, up to the first bundle handed out.
@@ -179,17 +192,23 @@ uint32_t btpu_receiver_start(uint8_t *state, size_t state_len);
  * back as it was left. The output has at least BTPU_MIN_OUTPUT octets.
  * Refusals: 1 to 9.
  */
-uint32_t btpu_receive(uint8_t *state, size_t state_len, uint8_t *pool, size_t pool_len,
-                      const uint8_t *frame, size_t frame_len, uint64_t place, uint8_t *output,
-                      size_t output_len, uint64_t result[BTPU_RESULT]);
+uint32_t btpu_receive(uint8_t state[BTPU_RECEIVER_IMAGE], uint8_t *pool, uint64_t pool_len,
+                      const uint8_t *frame, uint64_t frame_len, uint64_t place, uint8_t *output,
+                      uint64_t output_len, uint64_t result[BTPU_RESULT]);
 
 /*
  * Writes the image of a fresh sender with frames of frame_size octets, whose first transfer has
  * the number first_number. The old content of the image does not matter.
- * Refusals: 1 if state_len is not BTPU_SENDER_IMAGE; 14.
+ * Refusal: 14.
  */
-uint32_t btpu_sender_start(uint8_t *state, size_t state_len, uint64_t frame_size,
+uint32_t btpu_sender_start(uint8_t state[BTPU_SENDER_IMAGE], uint64_t frame_size,
                            uint32_t first_number);
+
+/*
+ * Whether an image is a sound state, for a host that restores a stored one.
+ * Refusal: 1.
+ */
+uint32_t btpu_sender_check(const uint8_t state[BTPU_SENDER_IMAGE]);
 
 /*
  * Adds at most one message with octets of the bundle to the frame, or closes the frame.
@@ -197,24 +216,26 @@ uint32_t btpu_sender_start(uint8_t *state, size_t state_len, uint64_t frame_size
  * Call it with the same bundle until the bundle is at its end: that is after BTPU_PLACED or
  * BTPU_PLACED_AND_READY with state[BTPU_SENDER_BEGUN] 0. After BTPU_PLACED_AND_READY and
  * BTPU_READY the frame buffer holds a frame to send, before the next call.
- * The frame buffer has exactly frame-size octets; hand it back as it was left.
+ * The frame buffer has exactly frame-size octets; hand it back as it was left. What a call adds
+ * stands behind the octets already written; the other octets of the buffer stay.
  * Refusals: 1, 10, 11, 12.
  */
-uint32_t btpu_place(uint8_t *state, size_t state_len, const uint8_t *bundle, size_t bundle_len,
-                    uint8_t *frame, size_t frame_len, uint64_t result[BTPU_RESULT]);
+uint32_t btpu_place(uint8_t state[BTPU_SENDER_IMAGE], const uint8_t *bundle, uint64_t bundle_len,
+                    uint8_t *frame, uint64_t frame_len, uint64_t result[BTPU_RESULT]);
 
 /*
  * Gives up the transfer begun and adds a cancel for it to the frame. Answer: BTPU_PLACED.
  * Refusals: 1, 10, 13.
  */
-uint32_t btpu_cancel(uint8_t *state, size_t state_len, uint8_t *frame, size_t frame_len,
+uint32_t btpu_cancel(uint8_t state[BTPU_SENDER_IMAGE], uint8_t *frame, uint64_t frame_len,
                      uint64_t result[BTPU_RESULT]);
 
 /*
- * Closes a frame that is begun. Answers: BTPU_READY, or BTPU_NOTHING if the frame is empty.
+ * Closes a frame that is begun. Answers: BTPU_READY, or BTPU_NOTHING if the frame is empty; image
+ * and frame buffer stay then.
  * Refusals: 1, 10.
  */
-uint32_t btpu_flush(uint8_t *state, size_t state_len, uint8_t *frame, size_t frame_len,
+uint32_t btpu_flush(uint8_t state[BTPU_SENDER_IMAGE], uint8_t *frame, uint64_t frame_len,
                     uint64_t result[BTPU_RESULT]);
 
 /*
@@ -223,8 +244,8 @@ uint32_t btpu_flush(uint8_t *state, size_t state_len, uint8_t *frame, size_t fra
  * another. result[BTPU_WRITTEN] is the length of the recording, 8 + 2 * frames + octets_len.
  * Refusals: 17, 18, 19, 24, in this order.
  */
-uint32_t btpu_record(const uint16_t *sizes, size_t frames, const uint8_t *octets,
-                     size_t octets_len, uint8_t *output, size_t output_len,
+uint32_t btpu_record(const uint16_t *sizes, uint64_t frames, const uint8_t *octets,
+                     uint64_t octets_len, uint8_t *output, uint64_t output_len,
                      uint64_t result[BTPU_RESULT]);
 
 /*
@@ -232,7 +253,7 @@ uint32_t btpu_record(const uint16_t *sizes, size_t frames, const uint8_t *octets
  * BTPU_OPENED_... of result say how many frames and octets there are and where the octets start.
  * Refusals: 16 or 17, whichever comes first in the recording; then 18, 19, 20, in this order.
  */
-uint32_t btpu_recording_open(const uint8_t *recording, size_t recording_len,
+uint32_t btpu_recording_open(const uint8_t *recording, uint64_t recording_len,
                              uint16_t sizes[BTPU_RECORDED_FRAMES], uint64_t result[BTPU_RESULT]);
 
 /*
@@ -251,10 +272,10 @@ uint32_t btpu_recording_open(const uint8_t *recording, size_t recording_len,
  * recording has room in them.
  * Refusals: 16 to 20 as btpu_recording_open gives them; then 2; then 24.
  */
-uint32_t btpu_play(const uint8_t *recording, size_t recording_len, uint64_t limit, uint8_t *pool,
-                   size_t pool_len, uint8_t *output, size_t output_len, uint16_t *lengths,
-                   size_t lengths_len, uint32_t *places, size_t places_len, uint32_t *reasons,
-                   size_t reasons_len, uint64_t result[BTPU_RESULT]);
+uint32_t btpu_play(const uint8_t *recording, uint64_t recording_len, uint64_t limit, uint8_t *pool,
+                   uint64_t pool_len, uint8_t *output, uint64_t output_len, uint16_t *lengths,
+                   uint64_t lengths_len, uint32_t *places, uint64_t places_len, uint32_t *reasons,
+                   uint64_t reasons_len, uint64_t result[BTPU_RESULT]);
 
 #ifdef __cplusplus
 }

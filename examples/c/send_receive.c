@@ -23,9 +23,10 @@ struct link_end {
 static uint8_t bundle[BUNDLE_LENGTH];
 static struct link_end end;
 
-static int fail(const char *what, uint32_t number)
+static int fail(const char *what, uint32_t returned)
 {
-    fprintf(stderr, "%s: refusal %lu\n", what, (unsigned long)number);
+    fprintf(stderr, "%s: refusal %lu, place %lu\n", what, (unsigned long)BTPU_REFUSAL(returned),
+            (unsigned long)BTPU_REFUSAL_PLACE(returned));
     return 1;
 }
 
@@ -37,11 +38,10 @@ static int take_frame(const uint8_t *frame)
 
     end.frames++;
     for (;;) {
-        uint32_t number = btpu_receive(end.image, sizeof end.image, end.pool, sizeof end.pool,
-                                       frame, FRAME_SIZE, place, end.output, sizeof end.output,
-                                       result);
-        if (number != 0)
-            return fail("btpu_receive", number);
+        uint32_t returned = btpu_receive(end.image, end.pool, sizeof end.pool, frame, FRAME_SIZE,
+                                         place, end.output, sizeof end.output, result);
+        if (returned != 0)
+            return fail("btpu_receive", returned);
         if (result[BTPU_ANSWER] == BTPU_FINISHED)
             return 0;
         if (result[BTPU_LENGTH] != BUNDLE_LENGTH || result[BTPU_NUMBER] != FIRST_NUMBER ||
@@ -59,32 +59,29 @@ int main(void)
     uint8_t sender[BTPU_SENDER_IMAGE];
     uint8_t frame[FRAME_SIZE];
     uint64_t result[BTPU_RESULT] = {0, 0, 0, 0};
-    uint32_t number;
+    uint32_t returned;
     size_t i;
 
     for (i = 0; i < BUNDLE_LENGTH; i++)
         bundle[i] = (uint8_t)(37 * i + i / 256);
     memset(frame, 0, sizeof frame);
 
-    number = btpu_receiver_start(end.image, sizeof end.image);
-    if (number != 0)
-        return fail("btpu_receiver_start", number);
-    number = btpu_sender_start(sender, sizeof sender, FRAME_SIZE, FIRST_NUMBER);
-    if (number != 0)
-        return fail("btpu_sender_start", number);
+    btpu_receiver_start(end.image);
+    returned = btpu_sender_start(sender, FRAME_SIZE, FIRST_NUMBER);
+    if (returned != 0)
+        return fail("btpu_sender_start", returned);
 
     do {
-        number = btpu_place(sender, sizeof sender, bundle, sizeof bundle, frame, sizeof frame,
-                            result);
-        if (number != 0)
-            return fail("btpu_place", number);
+        returned = btpu_place(sender, bundle, sizeof bundle, frame, sizeof frame, result);
+        if (returned != 0)
+            return fail("btpu_place", returned);
         if (result[BTPU_ANSWER] != BTPU_PLACED && take_frame(frame) != 0)
             return 1;
     } while (result[BTPU_ANSWER] == BTPU_READY || sender[BTPU_SENDER_BEGUN] != 0);
 
-    number = btpu_flush(sender, sizeof sender, frame, sizeof frame, result);
-    if (number != 0)
-        return fail("btpu_flush", number);
+    returned = btpu_flush(sender, frame, sizeof frame, result);
+    if (returned != 0)
+        return fail("btpu_flush", returned);
     if (result[BTPU_ANSWER] == BTPU_READY && take_frame(frame) != 0)
         return 1;
 

@@ -1,4 +1,4 @@
-//! Calls made on both sides at once, and every octet compared.
+//! Calls made on both sides at once, and what they return and every octet lent compared.
 
 use crate::coverage::{Coverage, FRAME_LENGTHS, FRAME_SIZES, NEVER_GIVEN};
 use crate::ffi::{self, MIN_OUTPUT, NO_NUMBER, POOL, RECEIVER_IMAGE, SENDER_IMAGE};
@@ -52,22 +52,56 @@ impl<'a> Trial<'a> {
         }
     }
 
+    /// Checks what was lent to the exported side to be read only.
+    #[track_caller]
+    fn untouched<T>(&self, given: &[T], lent: &Lent<T>, what: &str)
+    where
+        T: Copy + PartialEq + From<u8>,
+    {
+        self.same(given, lent.get(), what);
+        self.check(lent.guards_stay(), "written past what was lent");
+    }
+
+    /// The result that the next call gets.
     fn begin_call(&mut self) -> [u64; 4] {
         self.calls += 1;
         [(); 4].map(|_| self.random.draw())
     }
 
+    /// Compares what a call returned and left in its result; the answer is the refusal's number.
     #[track_caller]
-    fn same_answer(&mut self, model: (u32, [u64; 4]), exported: (u32, [u64; 4])) {
+    fn same_answer(&mut self, model: (u32, [u64; 4]), exported: (u32, [u64; 4])) -> u32 {
         if model != exported {
             let [model, exported] = [model, exported]
-                .map(|(number, result)| format!("{number} with result {result:x?}"));
+                .map(|(returned, result)| format!("{returned:#x} with result {result:x?}"));
             self.fail(&format!("model: {model}, exported: {exported}"));
         }
-        let number = model.0 as usize;
-        let given = number < self.coverage.refusals.len() && !NEVER_GIVEN.contains(&number);
+        self.refusal(model.0)
+    }
+
+    /// Takes apart what a call without a result returned on both sides.
+    #[track_caller]
+    fn same_returned(&mut self, model: u32, exported: u32) -> u32 {
+        if model != exported {
+            self.fail(&format!("model: {model:#x}, exported: {exported:#x}"));
+        }
+        self.refusal(model)
+    }
+
+    /// Counts a refusal, or that there is none; the answer is its number.
+    #[track_caller]
+    fn refusal(&mut self, returned: u32) -> u32 {
+        let (number, place) = (returned & 0xff, returned >> 8);
+        let entry = number as usize;
+        let given = entry < self.coverage.refusals.len() && !NEVER_GIVEN.contains(&entry);
         self.check(given, "no such refusal");
-        self.coverage.refusals[number] += 1;
+        if (4..=8).contains(&number) {
+            self.coverage.refused_at(place);
+        } else {
+            self.check(place == 0, "a place without a bad message");
+        }
+        self.coverage.refusals[entry] += 1;
+        number
     }
 }
 
@@ -94,6 +128,11 @@ impl<T: Copy + PartialEq + From<u8>> Lent<T> {
     pub fn lend(&mut self) -> &mut [T] {
         let end = self.entries.len() - GUARD;
         &mut self.entries[GUARD..end]
+    }
+
+    /// What was lent as an array of this length.
+    pub fn array<const LENGTH: usize>(&mut self) -> &mut [T; LENGTH] {
+        self.lend().try_into().expect("the array's length")
     }
 
     fn guards_stay(&self) -> bool {
@@ -135,27 +174,29 @@ pub enum Received {
 /// The same receiver on both sides.
 #[derive(Clone)]
 pub struct ReceiverPair {
-    image: Vec<u8>,
+    image: [u8; RECEIVER_IMAGE],
     pool: Vec<u8>,
     output: Vec<u8>,
-    image_before: Vec<u8>,
+    image_before: [u8; RECEIVER_IMAGE],
     pool_before: Vec<u8>,
     output_before: Vec<u8>,
     exported_image: Lent,
     exported_pool: Lent,
     exported_output: Lent,
     exported_frame: Lent,
-    /// The last call's number, and the entries of its result that carry meaning.
+    /// Whether the check says that the image is a sound state.
+    sound: bool,
+    /// What the last call returned, and the entries of its result that carry meaning.
     told: Vec<u64>,
 }
 
 impl ReceiverPair {
-    pub fn new(trial: &mut Trial, image: &[u8]) -> ReceiverPair {
+    pub fn new(trial: &mut Trial, image: &[u8; RECEIVER_IMAGE]) -> ReceiverPair {
         let pool = trial.random.octets(POOL);
         let output = trial.random.octets(MIN_OUTPUT);
-        ReceiverPair {
-            image: image.to_vec(),
-            image_before: image.to_vec(),
+        let mut pair = ReceiverPair {
+            image: *image,
+            image_before: *image,
             exported_image: Lent::new(image),
             exported_pool: Lent::new(&pool),
             pool_before: pool.clone(),
@@ -164,42 +205,60 @@ impl ReceiverPair {
             output_before: output.clone(),
             output,
             exported_frame: Lent::new(&[]),
+            sound: false,
             told: Vec::new(),
-        }
+        };
+        pair.check(trial);
+        pair
     }
 
     pub fn start(trial: &mut Trial) -> ReceiverPair {
-        let image = trial.random.octets(RECEIVER_IMAGE);
+        let image = trial.random.array();
         let mut pair = ReceiverPair::new(trial, &image);
-        let number = pair.restart(trial);
-        trial.check(number == 0, "start is refused");
+        pair.restart(trial);
         pair
     }
 
     /// The receiver's start on the images as they are.
-    pub fn restart(&mut self, trial: &mut Trial) -> u32 {
-        let result = trial.begin_call();
+    pub fn restart(&mut self, trial: &mut Trial) {
+        trial.calls += 1;
         trial.coverage.starts += 1;
-        let number = interface::receiver_start(&mut self.image);
-        let exported = ffi::receiver_start(self.exported_image.lend());
-        trial.same_answer((number, result), (exported, result));
+        let returned = interface::receiver_start(&mut self.image);
+        let exported = ffi::receiver_start(self.exported_image.array());
+        let number = trial.same_returned(returned, exported);
+        trial.check(number == 0, "a receiver's start is refused");
+        self.same_image(trial);
+        self.image_before = self.image;
+        self.check(trial);
+        trial.check(self.sound, "a fresh receiver is not sound");
+    }
+
+    /// The check of the carried image.
+    fn check(&mut self, trial: &mut Trial) {
+        trial.calls += 1;
+        let returned = interface::receiver_check(&self.image);
+        let exported = ffi::receiver_check(self.exported_image.array());
+        self.sound = trial.same_returned(returned, exported) == 0;
+        trial.check(returned <= 1, "another refusal than 1");
+        trial.coverage.checked_receivers[usize::from(!self.sound)] += 1;
+        self.same_image(trial);
+    }
+
+    #[track_caller]
+    fn same_image(&self, trial: &Trial) {
         trial.same(&self.image, self.exported_image.get(), "state");
         trial.check(self.exported_image.guards_stay(), "written past the image");
-        if number != 0 {
-            trial.same(&self.image, &self.image_before, "state of a refused start");
-        }
-        self.image_before.copy_from_slice(&self.image);
-        number
     }
 
     /// Puts another image in place of the carried one.
-    pub fn set_image(&mut self, image: &[u8]) {
-        self.image = image.to_vec();
-        self.image_before = image.to_vec();
+    pub fn set_image(&mut self, trial: &mut Trial, image: &[u8; RECEIVER_IMAGE]) {
+        self.image = *image;
+        self.image_before = *image;
         self.exported_image = Lent::new(image);
+        self.check(trial);
     }
 
-    pub fn image(&self) -> &[u8] {
+    pub fn image(&self) -> &[u8; RECEIVER_IMAGE] {
         &self.image
     }
 
@@ -245,7 +304,7 @@ impl ReceiverPair {
         }
         let mut result = lent_result;
         let mut exported_result = lent_result;
-        let (number, exported_number) = match lending.other_pool {
+        let (returned, exported) = match lending.other_pool {
             None => (
                 interface::receive(
                     &mut self.image,
@@ -257,7 +316,7 @@ impl ReceiverPair {
                     trial.coverage,
                 ),
                 ffi::receive(
-                    self.exported_image.lend(),
+                    self.exported_image.array(),
                     self.exported_pool.lend(),
                     self.exported_frame.get(),
                     place,
@@ -268,7 +327,7 @@ impl ReceiverPair {
             Some(length) => {
                 let mut other = trial.random.octets(length);
                 let mut exported_other = Lent::new(&other);
-                let number = interface::receive(
+                let returned = interface::receive(
                     &mut self.image,
                     &mut other,
                     frame,
@@ -277,8 +336,8 @@ impl ReceiverPair {
                     &mut result,
                     trial.coverage,
                 );
-                let exported_number = ffi::receive(
-                    self.exported_image.lend(),
+                let exported = ffi::receive(
+                    self.exported_image.array(),
                     exported_other.lend(),
                     self.exported_frame.get(),
                     place,
@@ -287,16 +346,15 @@ impl ReceiverPair {
                 );
                 trial.same(&other, exported_other.get(), "other pool");
                 trial.check(exported_other.guards_stay(), "written past the pool");
-                (number, exported_number)
+                (returned, exported)
             }
         };
-        trial.same_answer((number, result), (exported_number, exported_result));
-        trial.same(&self.image, self.exported_image.get(), "state");
+        let number = trial.same_answer((returned, result), (exported, exported_result));
+        self.same_image(trial);
         trial.same(&self.pool, self.exported_pool.get(), "pool");
         trial.same(&self.output, self.exported_output.get(), "output");
         trial.same(frame, self.exported_frame.get(), "frame");
         let lent = [
-            &self.exported_image,
             &self.exported_pool,
             &self.exported_output,
             &self.exported_frame,
@@ -305,15 +363,17 @@ impl ReceiverPair {
             lent.iter().all(|lent| lent.guards_stay()),
             "written past what was lent",
         );
-        let received = self.classify(trial, number, lent_result, result, frame.len());
+        trial.check((number == 1) != self.sound, "refusal 1 against the check");
+        let received = self.classify(trial, returned, lent_result, result, frame.len());
         self.told = match received {
-            Received::Refused(4..=8) => vec![u64::from(number), result[2]],
-            Received::Refused(_) => vec![u64::from(number)],
+            Received::Refused(_) => vec![u64::from(returned)],
             Received::Finished => vec![0, result[0]],
             Received::Bundle { .. } => [&[0], &result[..]].concat(),
         };
-        self.image_before.copy_from_slice(&self.image);
+        self.image_before = self.image;
         if number == 0 {
+            self.check(trial);
+            trial.check(self.sound, "the state left is not sound");
             self.pool_before.copy_from_slice(&self.pool);
             self.output_before.copy_from_slice(&self.output);
         }
@@ -324,21 +384,19 @@ impl ReceiverPair {
     fn classify(
         &self,
         trial: &mut Trial,
-        number: u32,
+        returned: u32,
         lent_result: [u64; 4],
         result: [u64; 4],
         frame_length: usize,
     ) -> Received {
-        let mut expected = lent_result;
         if let Some(edge) = FRAME_LENGTHS.iter().position(|&edge| edge == frame_length) {
             trial.coverage.frame_lengths[edge] += 1;
         }
-        if number != 0 {
-            if (4..=8).contains(&number) {
-                trial.check(result[2] < frame_length as u64, "place past the frame");
-                expected[2] = result[2];
-            }
-            trial.check(result == expected, "result of a refused call");
+        if returned != 0 {
+            let place = (returned >> 8) as usize;
+            let inside = place == 0 || place < frame_length;
+            trial.check(inside, "place past the frame");
+            trial.check(result == lent_result, "result of a refused call");
             trial.same(&self.image, &self.image_before, "state of a refused call");
             trial.same(&self.pool, &self.pool_before, "pool of a refused call");
             trial.same(
@@ -346,11 +404,10 @@ impl ReceiverPair {
                 &self.output_before,
                 "output of a refused call",
             );
-            return Received::Refused(number);
+            return Received::Refused(returned & 0xff);
         }
         if result[0] == 0 {
-            expected[0] = 0;
-            trial.check(result == expected, "result of Finished");
+            trial.check(result[1..] == lent_result[1..], "result of Finished");
             trial.same(&self.output, &self.output_before, "output of Finished");
             trial.coverage.finished += 1;
             return Received::Finished;
@@ -410,30 +467,32 @@ pub enum Send<'a> {
 
 /// The same sender on both sides.
 pub struct SenderPair {
-    image: Vec<u8>,
+    image: [u8; SENDER_IMAGE],
     frame: Vec<u8>,
     exported_image: Lent,
     exported_frame: Lent,
+    /// Whether the check says that the image is a sound state.
+    sound: bool,
 }
 
 impl SenderPair {
     /// A sender with this image, and a frame buffer of the image's frame size.
-    pub fn new(trial: &mut Trial, image: &[u8]) -> SenderPair {
-        let size = match image {
-            [high, low, ..] => usize::from(u16::from_be_bytes([*high, *low])),
-            _ => 128,
-        };
+    pub fn new(trial: &mut Trial, image: &[u8; SENDER_IMAGE]) -> SenderPair {
+        let size = usize::from(u16::from_be_bytes([image[0], image[1]]));
         let frame = trial.random.octets(size);
-        SenderPair {
-            image: image.to_vec(),
+        let mut pair = SenderPair {
+            image: *image,
             exported_image: Lent::new(image),
             exported_frame: Lent::new(&frame),
             frame,
-        }
+            sound: false,
+        };
+        pair.check(trial);
+        pair
     }
 
     pub fn start(trial: &mut Trial, frame_size: usize, first_number: u32) -> SenderPair {
-        let image = trial.random.octets(SENDER_IMAGE);
+        let image = trial.random.array();
         let mut pair = SenderPair::new(trial, &image);
         let number = pair.restart(trial, frame_size as u64, first_number);
         trial.check(number == 0, "start is refused");
@@ -444,25 +503,40 @@ impl SenderPair {
 
     /// The sender's start on the images as they are.
     pub fn restart(&mut self, trial: &mut Trial, frame_size: u64, first_number: u32) -> u32 {
-        let result = trial.begin_call();
+        trial.calls += 1;
         trial.coverage.starts += 1;
         if let Some(edge) = FRAME_SIZES.iter().position(|&edge| edge == frame_size) {
             trial.coverage.frame_sizes[edge] += 1;
         }
-        let before = self.image.clone();
-        let number = interface::sender_start(&mut self.image, frame_size, first_number);
-        let exported = ffi::sender_start(self.exported_image.lend(), frame_size, first_number);
-        trial.same_answer((number, result), (exported, result));
-        trial.same(&self.image, self.exported_image.get(), "state");
-        trial.check(self.exported_image.guards_stay(), "written past the image");
+        let before = self.image;
+        let returned = interface::sender_start(&mut self.image, frame_size, first_number);
+        let exported = ffi::sender_start(self.exported_image.array(), frame_size, first_number);
+        let number = trial.same_returned(returned, exported);
+        self.same_image(trial);
         if number != 0 {
             trial.same(&self.image, &before, "state of a refused start");
+            return number;
         }
-        number
+        self.check(trial);
+        trial.check(self.sound, "a fresh sender is not sound");
+        0
     }
 
-    pub fn image(&self) -> &[u8] {
-        &self.image
+    /// The check of the carried image.
+    fn check(&mut self, trial: &mut Trial) {
+        trial.calls += 1;
+        let returned = interface::sender_check(&self.image);
+        let exported = ffi::sender_check(self.exported_image.array());
+        self.sound = trial.same_returned(returned, exported) == 0;
+        trial.check(returned <= 1, "another refusal than 1");
+        trial.coverage.checked_senders[usize::from(!self.sound)] += 1;
+        self.same_image(trial);
+    }
+
+    #[track_caller]
+    fn same_image(&self, trial: &Trial) {
+        trial.same(&self.image, self.exported_image.get(), "state");
+        trial.check(self.exported_image.guards_stay(), "written past the image");
     }
 
     pub fn frame(&self) -> &[u8] {
@@ -508,24 +582,24 @@ impl SenderPair {
     ) -> Sent {
         let lent_result = trial.begin_call();
         trial.coverage.sending_calls += 1;
-        let image_before = self.image.clone();
+        let image_before = self.image;
         let frame_before = frame.to_vec();
         let mut result = lent_result;
         let mut exported_result = lent_result;
         let image = &mut self.image;
-        let exported_image = self.exported_image.lend();
-        let (number, exported_number) = match call {
+        let exported_image = self.exported_image.array();
+        let (returned, exported) = match call {
             Send::Place(bundle) => {
                 let exported_bundle = Lent::new(bundle);
-                let number = interface::place(image, bundle, frame, &mut result);
-                let exported_number = ffi::place(
+                let returned = interface::place(image, bundle, frame, &mut result);
+                let exported = ffi::place(
                     exported_image,
                     exported_bundle.get(),
                     lent.lend(),
                     &mut exported_result,
                 );
-                trial.same(bundle, exported_bundle.get(), "bundle");
-                (number, exported_number)
+                trial.untouched(bundle, &exported_bundle, "bundle");
+                (returned, exported)
             }
             Send::Cancel => (
                 interface::cancel(image, frame, &mut result),
@@ -536,13 +610,11 @@ impl SenderPair {
                 ffi::flush(exported_image, lent.lend(), &mut exported_result),
             ),
         };
-        trial.same_answer((number, result), (exported_number, exported_result));
-        trial.same(&self.image, self.exported_image.get(), "state");
+        let number = trial.same_answer((returned, result), (exported, exported_result));
+        self.same_image(trial);
         trial.same(frame, lent.get(), "frame");
-        trial.check(
-            self.exported_image.guards_stay() && lent.guards_stay(),
-            "written past what was lent",
-        );
+        trial.check(lent.guards_stay(), "written past what was lent");
+        trial.check((number == 1) != self.sound, "refusal 1 against the check");
         if number != 0 {
             trial.check(result == lent_result, "result of a refused call");
             trial.same(&self.image, &image_before, "state of a refused call");
@@ -551,6 +623,8 @@ impl SenderPair {
         }
         trial.check(result[1..] == lent_result[1..], "result without meaning");
         trial.check(result[0] <= 3, "no such answer");
+        self.check(trial);
+        trial.check(self.sound, "the state left is not sound");
         trial.coverage.sent[result[0] as usize] += 1;
         match result[0] {
             0 => Sent::Placed,

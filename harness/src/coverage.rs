@@ -35,8 +35,13 @@ pub struct Coverage {
     pub sending_calls: u64,
     pub starts: u64,
     pub recording_calls: u64,
+    /// Images checked that are sound, and that are not.
+    pub checked_receivers: [u64; 2],
+    pub checked_senders: [u64; 2],
     /// By number; entry 0 counts the calls that were not refused.
     pub refusals: [u64; 25],
+    /// Bad messages that start at 0, at 1 to 255, and beyond.
+    pub places: [u64; 3],
     pub distances: [u64; 5],
     pub edges: [u64; EDGES.len()],
     /// New numbers beyond 4,294,967,295.
@@ -84,8 +89,28 @@ impl Coverage {
         }
     }
 
+    /// Counts a bad message that starts there.
+    pub fn refused_at(&mut self, place: u32) {
+        let case = match place {
+            0 => 0,
+            1..=255 => 1,
+            _ => 2,
+        };
+        self.places[case] += 1;
+    }
+
+    /// The calls that check an image.
+    pub fn checks(&self) -> u64 {
+        let counts = self.checked_receivers.iter().chain(&self.checked_senders);
+        counts.sum()
+    }
+
     pub fn calls(&self) -> u64 {
-        self.receiving_calls + self.sending_calls + self.starts + self.recording_calls
+        self.receiving_calls
+            + self.sending_calls
+            + self.starts
+            + self.checks()
+            + self.recording_calls
     }
 
     /// Every count of a case with its name.
@@ -103,6 +128,14 @@ impl Coverage {
         list("refusal", &numbers[6..15], &self.refusals[6..15]);
         list("refusal", &numbers[16..21], &self.refusals[16..21]);
         list("refusal", &numbers[24..], &self.refusals[24..]);
+        list(
+            "bad message",
+            &["at 0", "at 1 to 255", "at 256 or beyond"],
+            &self.places,
+        );
+        let sound = ["sound", "not sound"];
+        list("receiver checked", &sound, &self.checked_receivers);
+        list("sender checked", &sound, &self.checked_senders);
         list(
             "window",
             &["G absent", "0", "new", "outside", "behind"],

@@ -19,91 +19,79 @@ pub const PLAYED_BUNDLES: usize = 15_360;
 
 mod exported {
     extern "C" {
-        pub fn btpu_receiver_start(state: *mut u8, state_len: usize) -> u32;
+        pub fn btpu_receiver_start(state: *mut u8) -> u32;
+        pub fn btpu_receiver_check(state: *const u8) -> u32;
         pub fn btpu_receive(
             state: *mut u8,
-            state_len: usize,
             pool: *mut u8,
-            pool_len: usize,
+            pool_len: u64,
             frame: *const u8,
-            frame_len: usize,
+            frame_len: u64,
             place: u64,
             output: *mut u8,
-            output_len: usize,
+            output_len: u64,
             result: *mut u64,
         ) -> u32;
-        pub fn btpu_sender_start(
-            state: *mut u8,
-            state_len: usize,
-            frame_size: u64,
-            first_number: u32,
-        ) -> u32;
+        pub fn btpu_sender_start(state: *mut u8, frame_size: u64, first_number: u32) -> u32;
+        pub fn btpu_sender_check(state: *const u8) -> u32;
         pub fn btpu_place(
             state: *mut u8,
-            state_len: usize,
             bundle: *const u8,
-            bundle_len: usize,
+            bundle_len: u64,
             frame: *mut u8,
-            frame_len: usize,
+            frame_len: u64,
             result: *mut u64,
         ) -> u32;
-        pub fn btpu_cancel(
-            state: *mut u8,
-            state_len: usize,
-            frame: *mut u8,
-            frame_len: usize,
-            result: *mut u64,
-        ) -> u32;
-        pub fn btpu_flush(
-            state: *mut u8,
-            state_len: usize,
-            frame: *mut u8,
-            frame_len: usize,
-            result: *mut u64,
-        ) -> u32;
+        pub fn btpu_cancel(state: *mut u8, frame: *mut u8, frame_len: u64, result: *mut u64)
+            -> u32;
+        pub fn btpu_flush(state: *mut u8, frame: *mut u8, frame_len: u64, result: *mut u64) -> u32;
         pub fn btpu_record(
             sizes: *const u16,
-            frames: usize,
+            frames: u64,
             octets: *const u8,
-            octets_len: usize,
+            octets_len: u64,
             output: *mut u8,
-            output_len: usize,
+            output_len: u64,
             result: *mut u64,
         ) -> u32;
         pub fn btpu_recording_open(
             recording: *const u8,
-            recording_len: usize,
+            recording_len: u64,
             sizes: *mut u16,
             result: *mut u64,
         ) -> u32;
         pub fn btpu_play(
             recording: *const u8,
-            recording_len: usize,
+            recording_len: u64,
             limit: u64,
             pool: *mut u8,
-            pool_len: usize,
+            pool_len: u64,
             output: *mut u8,
-            output_len: usize,
+            output_len: u64,
             lengths: *mut u16,
-            lengths_len: usize,
+            lengths_len: u64,
             places: *mut u32,
-            places_len: usize,
+            places_len: u64,
             reasons: *mut u32,
-            reasons_len: usize,
+            reasons_len: u64,
             result: *mut u64,
         ) -> u32;
     }
 }
 
-// In every function below the pointers come from slices that are valid for their lengths during
-// the call, and writable ones from exclusive borrows, so that no two of them overlap.
+// In every function below the pointers come from arrays and slices that are valid for their lengths
+// during the call, and writable ones from exclusive borrows, so that no two of them overlap.
 
-pub fn receiver_start(state: &mut [u8]) -> u32 {
-    unsafe { exported::btpu_receiver_start(state.as_mut_ptr(), state.len()) }
+pub fn receiver_start(state: &mut [u8; RECEIVER_IMAGE]) -> u32 {
+    unsafe { exported::btpu_receiver_start(state.as_mut_ptr()) }
+}
+
+pub fn receiver_check(state: &[u8; RECEIVER_IMAGE]) -> u32 {
+    unsafe { exported::btpu_receiver_check(state.as_ptr()) }
 }
 
 pub fn receive(
-    state: &mut [u8],
+    state: &mut [u8; RECEIVER_IMAGE],
     pool: &mut [u8],
     frame: &[u8],
     place: u64,
@@ -113,58 +101,61 @@ pub fn receive(
     unsafe {
         exported::btpu_receive(
             state.as_mut_ptr(),
-            state.len(),
             pool.as_mut_ptr(),
-            pool.len(),
+            pool.len() as u64,
             frame.as_ptr(),
-            frame.len(),
+            frame.len() as u64,
             place,
             output.as_mut_ptr(),
-            output.len(),
+            output.len() as u64,
             result.as_mut_ptr(),
         )
     }
 }
 
-pub fn sender_start(state: &mut [u8], frame_size: u64, first_number: u32) -> u32 {
-    unsafe {
-        exported::btpu_sender_start(state.as_mut_ptr(), state.len(), frame_size, first_number)
-    }
+pub fn sender_start(state: &mut [u8; SENDER_IMAGE], frame_size: u64, first_number: u32) -> u32 {
+    unsafe { exported::btpu_sender_start(state.as_mut_ptr(), frame_size, first_number) }
 }
 
-pub fn place(state: &mut [u8], bundle: &[u8], frame: &mut [u8], result: &mut [u64; 4]) -> u32 {
+pub fn sender_check(state: &[u8; SENDER_IMAGE]) -> u32 {
+    unsafe { exported::btpu_sender_check(state.as_ptr()) }
+}
+
+pub fn place(
+    state: &mut [u8; SENDER_IMAGE],
+    bundle: &[u8],
+    frame: &mut [u8],
+    result: &mut [u64; 4],
+) -> u32 {
     unsafe {
         exported::btpu_place(
             state.as_mut_ptr(),
-            state.len(),
             bundle.as_ptr(),
-            bundle.len(),
+            bundle.len() as u64,
             frame.as_mut_ptr(),
-            frame.len(),
+            frame.len() as u64,
             result.as_mut_ptr(),
         )
     }
 }
 
-pub fn cancel(state: &mut [u8], frame: &mut [u8], result: &mut [u64; 4]) -> u32 {
+pub fn cancel(state: &mut [u8; SENDER_IMAGE], frame: &mut [u8], result: &mut [u64; 4]) -> u32 {
     unsafe {
         exported::btpu_cancel(
             state.as_mut_ptr(),
-            state.len(),
             frame.as_mut_ptr(),
-            frame.len(),
+            frame.len() as u64,
             result.as_mut_ptr(),
         )
     }
 }
 
-pub fn flush(state: &mut [u8], frame: &mut [u8], result: &mut [u64; 4]) -> u32 {
+pub fn flush(state: &mut [u8; SENDER_IMAGE], frame: &mut [u8], result: &mut [u64; 4]) -> u32 {
     unsafe {
         exported::btpu_flush(
             state.as_mut_ptr(),
-            state.len(),
             frame.as_mut_ptr(),
-            frame.len(),
+            frame.len() as u64,
             result.as_mut_ptr(),
         )
     }
@@ -174,11 +165,11 @@ pub fn record(sizes: &[u16], octets: &[u8], output: &mut [u8], result: &mut [u64
     unsafe {
         exported::btpu_record(
             sizes.as_ptr(),
-            sizes.len(),
+            sizes.len() as u64,
             octets.as_ptr(),
-            octets.len(),
+            octets.len() as u64,
             output.as_mut_ptr(),
-            output.len(),
+            output.len() as u64,
             result.as_mut_ptr(),
         )
     }
@@ -192,7 +183,7 @@ pub fn recording_open(
     unsafe {
         exported::btpu_recording_open(
             recording.as_ptr(),
-            recording.len(),
+            recording.len() as u64,
             sizes.as_mut_ptr(),
             result.as_mut_ptr(),
         )
@@ -211,18 +202,18 @@ pub fn play(
     unsafe {
         exported::btpu_play(
             recording.as_ptr(),
-            recording.len(),
+            recording.len() as u64,
             limit,
             pool.as_mut_ptr(),
-            pool.len(),
+            pool.len() as u64,
             output.as_mut_ptr(),
-            output.len(),
+            output.len() as u64,
             lengths.as_mut_ptr(),
-            lengths.len(),
+            lengths.len() as u64,
             places.as_mut_ptr(),
-            places.len(),
+            places.len() as u64,
             reasons.as_mut_ptr(),
-            reasons.len(),
+            reasons.len() as u64,
             result.as_mut_ptr(),
         )
     }
@@ -247,6 +238,19 @@ impl fmt::Display for Refused {
 }
 
 impl std::error::Error for Refused {}
+
+/// What a call returned, taken apart.
+fn accepted(returned: u32) -> Result<(), Refused> {
+    match returned & 0xff {
+        0 => Ok(()),
+        number => Err(Refused {
+            number,
+            at: (4..=8)
+                .contains(&number)
+                .then_some(u64::from(returned >> 8)),
+        }),
+    }
+}
 
 #[derive(Clone, Copy, Debug, PartialEq, Eq)]
 pub enum Received {
@@ -276,18 +280,28 @@ impl Sent {
 /// A receiver with its pool.
 pub struct Receiver {
     pub image: [u8; RECEIVER_IMAGE],
-    pub pool: Box<[u8]>,
+    pub pool: Box<[u8; POOL]>,
 }
 
 impl Receiver {
     pub fn start() -> Receiver {
+        let pool: Box<[u8]> = vec![0; POOL].into();
         let mut receiver = Receiver {
             image: [0; RECEIVER_IMAGE],
-            pool: vec![0; POOL].into(),
+            pool: pool.try_into().expect("it has the pool's length"),
         };
-        let refusal = receiver_start(&mut receiver.image);
-        assert_eq!(refusal, 0, "the image has the right length");
+        let returned = receiver_start(&mut receiver.image);
+        assert_eq!(returned, 0, "a receiver's start refuses nothing");
         receiver
+    }
+
+    /// A receiver as it was stored, if its image is good.
+    pub fn restore(
+        image: [u8; RECEIVER_IMAGE],
+        pool: Box<[u8; POOL]>,
+    ) -> Result<Receiver, Refused> {
+        accepted(receiver_check(&image))?;
+        Ok(Receiver { image, pool })
     }
 
     /// Treats the messages from `place` up to the first bundle, which is put into `output`.
@@ -298,19 +312,16 @@ impl Receiver {
         output: &mut [u8],
     ) -> Result<Received, Refused> {
         let mut result = [0; 4];
-        let (image, pool) = (&mut self.image, &mut self.pool);
-        match receive(image, pool, frame, place, output, &mut result) {
-            0 if result[0] == 0 => Ok(Received::Finished),
-            0 => Ok(Received::Bundle {
+        let (image, pool) = (&mut self.image, &mut self.pool[..]);
+        accepted(receive(image, pool, frame, place, output, &mut result))?;
+        Ok(match result[0] {
+            0 => Received::Finished,
+            _ => Received::Bundle {
                 length: result[1] as usize,
                 next: result[2],
                 number: u32::try_from(result[3]).ok(),
-            }),
-            number => Err(Refused {
-                number,
-                at: (4..=8).contains(&number).then_some(result[2]),
-            }),
-        }
+            },
+        })
     }
 
     /// Takes a frame to its end and hands each bundle, with its transfer number, to `sink`.
@@ -343,31 +354,41 @@ pub struct Sender {
 impl Sender {
     pub fn start(frame_size: u64, first_number: u32) -> Result<Sender, Refused> {
         let mut image = [0; SENDER_IMAGE];
-        match sender_start(&mut image, frame_size, first_number) {
-            0 => Ok(Sender {
-                image,
-                frame: vec![0; frame_size as usize],
-            }),
-            number => Err(Refused { number, at: None }),
+        accepted(sender_start(&mut image, frame_size, first_number))?;
+        Ok(Sender {
+            image,
+            frame: vec![0; frame_size as usize],
+        })
+    }
+
+    /// A sender as it was stored, if its image is good and the frame has its frame size.
+    pub fn restore(image: [u8; SENDER_IMAGE], frame: Vec<u8>) -> Result<Sender, Refused> {
+        accepted(sender_check(&image))?;
+        if frame.len() != usize::from(u16::from_be_bytes([image[0], image[1]])) {
+            return Err(Refused {
+                number: 10,
+                at: None,
+            });
         }
+        Ok(Sender { image, frame })
     }
 
     pub fn place(&mut self, bundle: &[u8]) -> Result<Sent, Refused> {
         let mut result = [0; 4];
-        let number = place(&mut self.image, bundle, &mut self.frame, &mut result);
-        sent(number, result)
+        let returned = place(&mut self.image, bundle, &mut self.frame, &mut result);
+        sent(returned, result)
     }
 
     pub fn cancel(&mut self) -> Result<Sent, Refused> {
         let mut result = [0; 4];
-        let number = cancel(&mut self.image, &mut self.frame, &mut result);
-        sent(number, result)
+        let returned = cancel(&mut self.image, &mut self.frame, &mut result);
+        sent(returned, result)
     }
 
     pub fn flush(&mut self) -> Result<Sent, Refused> {
         let mut result = [0; 4];
-        let number = flush(&mut self.image, &mut self.frame, &mut result);
-        sent(number, result)
+        let returned = flush(&mut self.image, &mut self.frame, &mut result);
+        sent(returned, result)
     }
 
     /// Whether a transfer is begun and not yet at its end.
@@ -389,13 +410,13 @@ impl Sender {
     }
 }
 
-fn sent(number: u32, result: [u64; 4]) -> Result<Sent, Refused> {
-    match (number, result[0]) {
-        (0, 0) => Ok(Sent::Placed),
-        (0, 1) => Ok(Sent::PlacedAndReady),
-        (0, 2) => Ok(Sent::Ready),
-        (0, 3) => Ok(Sent::Nothing),
-        (0, other) => panic!("no such answer: {other}"),
-        (number, _) => Err(Refused { number, at: None }),
-    }
+fn sent(returned: u32, result: [u64; 4]) -> Result<Sent, Refused> {
+    accepted(returned)?;
+    Ok(match result[0] {
+        0 => Sent::Placed,
+        1 => Sent::PlacedAndReady,
+        2 => Sent::Ready,
+        3 => Sent::Nothing,
+        other => panic!("no such answer: {other}"),
+    })
 }

@@ -488,8 +488,8 @@ fn piece_count(random: &mut Random) -> usize {
 }
 
 /// The image of a sound receiver with a greatest number and rows of every kind.
-pub fn sound_receiver(random: &mut Random) -> Vec<u8> {
-    let mut image = vec![0; RECEIVER_IMAGE];
+pub fn sound_receiver(random: &mut Random) -> [u8; RECEIVER_IMAGE] {
+    let mut image = [0; RECEIVER_IMAGE];
     image[0] = 1;
     let greatest = first_number(random);
     image[4..8].copy_from_slice(&greatest.to_be_bytes());
@@ -513,7 +513,7 @@ pub fn sound_receiver(random: &mut Random) -> Vec<u8> {
 
 /// The ways in which a receiver's image is unsound or no state.
 pub const RECEIVER_DAMAGE: [&str; 24] = [
-    "length of the image",
+    "erased from an octet on",
     "G's flag above 1",
     "octets 1 to 3 not zero",
     "G absent and not zero",
@@ -540,7 +540,7 @@ pub const RECEIVER_DAMAGE: [&str; 24] = [
 ];
 
 /// An image of a receiver that must be refused, damaged in the way of that place in the list.
-pub fn unsound_receiver(random: &mut Random, damage: usize) -> Vec<u8> {
+pub fn unsound_receiver(random: &mut Random, damage: usize) -> [u8; RECEIVER_IMAGE] {
     let mut image = sound_receiver(random);
     let place = random.below(ROWS);
     let wrong_flag = random.within(2, 255) as u8;
@@ -548,8 +548,9 @@ pub fn unsound_receiver(random: &mut Random, damage: usize) -> Vec<u8> {
     let phase = random.pick(&[0, 2, 3, 4]);
     match damage {
         0 => {
-            let length = random.pick(&[0, 1, 24, RECEIVER_IMAGE - 1, RECEIVER_IMAGE + 1, 8357]);
-            image.resize(length, 0);
+            // The last row's phase is erased too.
+            let from = random.edge_or_within(0, RECEIVER_IMAGE - ROW_IMAGE);
+            image[from..].fill(0xff);
             return image;
         }
         1 => {
@@ -751,17 +752,17 @@ pub struct SenderEntries {
 }
 
 impl SenderEntries {
-    pub fn image(&self) -> Vec<u8> {
-        let mut image = Vec::with_capacity(SENDER_IMAGE);
-        image.extend(self.frame_size.to_be_bytes());
-        image.extend(self.fill.to_be_bytes());
-        image.extend(self.next_number.to_be_bytes());
-        image.push(self.begun);
-        image.extend(self.zeros);
-        image.extend(self.number.to_be_bytes());
-        image.extend(self.length.to_be_bytes());
-        image.extend(self.placed.to_be_bytes());
-        image.extend(self.next_index.to_be_bytes());
+    pub fn image(&self) -> [u8; SENDER_IMAGE] {
+        let mut image = [0; SENDER_IMAGE];
+        image[0..2].copy_from_slice(&self.frame_size.to_be_bytes());
+        image[2..4].copy_from_slice(&self.fill.to_be_bytes());
+        image[4..8].copy_from_slice(&self.next_number.to_be_bytes());
+        image[8] = self.begun;
+        image[9..12].copy_from_slice(&self.zeros);
+        image[12..16].copy_from_slice(&self.number.to_be_bytes());
+        image[16..18].copy_from_slice(&self.length.to_be_bytes());
+        image[18..20].copy_from_slice(&self.placed.to_be_bytes());
+        image[20..24].copy_from_slice(&self.next_index.to_be_bytes());
         image
     }
 
@@ -806,7 +807,7 @@ impl SenderEntries {
 
 /// The ways in which a sender's image is unsound or no state.
 pub const SENDER_DAMAGE: [&str; 17] = [
-    "length of the image",
+    "erased from an octet on",
     "frame size below 128",
     "frame size above 2,048",
     "fill not below the frame size",
@@ -826,7 +827,7 @@ pub const SENDER_DAMAGE: [&str; 17] = [
 ];
 
 /// An image of a sender that must be refused, damaged in the way of that place in the list.
-pub fn unsound_sender(random: &mut Random, damage: usize) -> Vec<u8> {
+pub fn unsound_sender(random: &mut Random, damage: usize) -> [u8; SENDER_IMAGE] {
     let mut idle = SenderEntries::idle(random);
     let mut begun = SenderEntries::begun(random);
     let either = if random.once_in(2) { idle } else { begun };
@@ -836,7 +837,7 @@ pub fn unsound_sender(random: &mut Random, damage: usize) -> Vec<u8> {
     match damage {
         0 => {
             let mut image = either.image();
-            image.resize(random.pick(&[0, 1, 2, 23, 25, 3144]), 0);
+            image[random.below(SENDER_IMAGE)..].fill(0xff);
             image
         }
         1 => {

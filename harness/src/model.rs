@@ -34,6 +34,14 @@ pub enum Refusal {
 }
 
 impl Refusal {
+    /// What a call returns: the number, and above it the start of a bad message.
+    pub fn returned(self) -> u32 {
+        match self {
+            Refusal::Malformed(_, at) => self.number() | (at as u32) << 8,
+            _ => self.number(),
+        }
+    }
+
     /// The number in the papers.
     pub fn number(self) -> u32 {
         match self {

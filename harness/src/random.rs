@@ -73,6 +73,12 @@ impl Random {
         }
     }
 
+    pub fn array<const LENGTH: usize>(&mut self) -> [u8; LENGTH] {
+        let mut octets = [0; LENGTH];
+        self.fill(&mut octets);
+        octets
+    }
+
     pub fn octets(&mut self, length: usize) -> Vec<u8> {
         let mut octets = vec![0; length];
         self.fill(&mut octets);

@@ -1,23 +1,30 @@
 //! One interface for the two sides that are compared.
 
-use crate::ffi::{self, RECORDED_FRAMES};
+use crate::ffi::{self, RECEIVER_IMAGE, RECORDED_FRAMES, SENDER_IMAGE};
 use crate::model::interface;
 
 pub trait Side {
     const NAME: &'static str;
-    fn receiver_start(state: &mut [u8]) -> u32;
+    fn receiver_start(state: &mut [u8; RECEIVER_IMAGE]) -> u32;
+    fn receiver_check(state: &[u8; RECEIVER_IMAGE]) -> u32;
     fn receive(
-        state: &mut [u8],
+        state: &mut [u8; RECEIVER_IMAGE],
         pool: &mut [u8],
         frame: &[u8],
         place: u64,
         output: &mut [u8],
         result: &mut [u64; 4],
     ) -> u32;
-    fn sender_start(state: &mut [u8], frame_size: u64, first_number: u32) -> u32;
-    fn place(state: &mut [u8], bundle: &[u8], frame: &mut [u8], result: &mut [u64; 4]) -> u32;
-    fn cancel(state: &mut [u8], frame: &mut [u8], result: &mut [u64; 4]) -> u32;
-    fn flush(state: &mut [u8], frame: &mut [u8], result: &mut [u64; 4]) -> u32;
+    fn sender_start(state: &mut [u8; SENDER_IMAGE], frame_size: u64, first_number: u32) -> u32;
+    fn sender_check(state: &[u8; SENDER_IMAGE]) -> u32;
+    fn place(
+        state: &mut [u8; SENDER_IMAGE],
+        bundle: &[u8],
+        frame: &mut [u8],
+        result: &mut [u64; 4],
+    ) -> u32;
+    fn cancel(state: &mut [u8; SENDER_IMAGE], frame: &mut [u8], result: &mut [u64; 4]) -> u32;
+    fn flush(state: &mut [u8; SENDER_IMAGE], frame: &mut [u8], result: &mut [u64; 4]) -> u32;
     fn record(sizes: &[u16], octets: &[u8], output: &mut [u8], result: &mut [u64; 4]) -> u32;
     fn recording_open(
         recording: &[u8],
@@ -40,12 +47,16 @@ pub struct Exported;
 impl Side for Model {
     const NAME: &'static str = "model";
 
-    fn receiver_start(state: &mut [u8]) -> u32 {
+    fn receiver_start(state: &mut [u8; RECEIVER_IMAGE]) -> u32 {
         interface::receiver_start(state)
     }
 
+    fn receiver_check(state: &[u8; RECEIVER_IMAGE]) -> u32 {
+        interface::receiver_check(state)
+    }
+
     fn receive(
-        state: &mut [u8],
+        state: &mut [u8; RECEIVER_IMAGE],
         pool: &mut [u8],
         frame: &[u8],
         place: u64,
@@ -55,19 +66,28 @@ impl Side for Model {
         interface::receive(state, pool, frame, place, output, result, &mut ())
     }
 
-    fn sender_start(state: &mut [u8], frame_size: u64, first_number: u32) -> u32 {
+    fn sender_start(state: &mut [u8; SENDER_IMAGE], frame_size: u64, first_number: u32) -> u32 {
         interface::sender_start(state, frame_size, first_number)
     }
 
-    fn place(state: &mut [u8], bundle: &[u8], frame: &mut [u8], result: &mut [u64; 4]) -> u32 {
+    fn sender_check(state: &[u8; SENDER_IMAGE]) -> u32 {
+        interface::sender_check(state)
+    }
+
+    fn place(
+        state: &mut [u8; SENDER_IMAGE],
+        bundle: &[u8],
+        frame: &mut [u8],
+        result: &mut [u64; 4],
+    ) -> u32 {
         interface::place(state, bundle, frame, result)
     }
 
-    fn cancel(state: &mut [u8], frame: &mut [u8], result: &mut [u64; 4]) -> u32 {
+    fn cancel(state: &mut [u8; SENDER_IMAGE], frame: &mut [u8], result: &mut [u64; 4]) -> u32 {
         interface::cancel(state, frame, result)
     }
 
-    fn flush(state: &mut [u8], frame: &mut [u8], result: &mut [u64; 4]) -> u32 {
+    fn flush(state: &mut [u8; SENDER_IMAGE], frame: &mut [u8], result: &mut [u64; 4]) -> u32 {
         interface::flush(state, frame, result)
     }
 
@@ -98,12 +118,16 @@ impl Side for Model {
 impl Side for Exported {
     const NAME: &'static str = "exported";
 
-    fn receiver_start(state: &mut [u8]) -> u32 {
+    fn receiver_start(state: &mut [u8; RECEIVER_IMAGE]) -> u32 {
         ffi::receiver_start(state)
     }
 
+    fn receiver_check(state: &[u8; RECEIVER_IMAGE]) -> u32 {
+        ffi::receiver_check(state)
+    }
+
     fn receive(
-        state: &mut [u8],
+        state: &mut [u8; RECEIVER_IMAGE],
         pool: &mut [u8],
         frame: &[u8],
         place: u64,
@@ -113,19 +137,28 @@ impl Side for Exported {
         ffi::receive(state, pool, frame, place, output, result)
     }
 
-    fn sender_start(state: &mut [u8], frame_size: u64, first_number: u32) -> u32 {
+    fn sender_start(state: &mut [u8; SENDER_IMAGE], frame_size: u64, first_number: u32) -> u32 {
         ffi::sender_start(state, frame_size, first_number)
     }
 
-    fn place(state: &mut [u8], bundle: &[u8], frame: &mut [u8], result: &mut [u64; 4]) -> u32 {
+    fn sender_check(state: &[u8; SENDER_IMAGE]) -> u32 {
+        ffi::sender_check(state)
+    }
+
+    fn place(
+        state: &mut [u8; SENDER_IMAGE],
+        bundle: &[u8],
+        frame: &mut [u8],
+        result: &mut [u64; 4],
+    ) -> u32 {
         ffi::place(state, bundle, frame, result)
     }
 
-    fn cancel(state: &mut [u8], frame: &mut [u8], result: &mut [u64; 4]) -> u32 {
+    fn cancel(state: &mut [u8; SENDER_IMAGE], frame: &mut [u8], result: &mut [u64; 4]) -> u32 {
         ffi::cancel(state, frame, result)
     }
 
-    fn flush(state: &mut [u8], frame: &mut [u8], result: &mut [u64; 4]) -> u32 {
+    fn flush(state: &mut [u8; SENDER_IMAGE], frame: &mut [u8], result: &mut [u64; 4]) -> u32 {
         ffi::flush(state, frame, result)
     }
 

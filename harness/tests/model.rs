@@ -35,7 +35,7 @@ fn receiver_images() {
         assert!(state.is_sound());
         let mut again = [0xff; RECEIVER_IMAGE];
         state.encode(&mut again);
-        assert!(again[..] == image[..]);
+        assert!(again == image);
     }
 }
 
@@ -53,6 +53,6 @@ fn sender_images() {
         assert_eq!(state.begun.is_some(), round % 2 == 1);
         let mut again = [0xff; SENDER_IMAGE];
         state.encode(&mut again);
-        assert_eq!(again[..], entries.image()[..]);
+        assert_eq!(again, entries.image());
     }
 }

@@ -9,11 +9,11 @@ type Opened = Result<(Vec<u16>, u64, u64), u32>;
 fn open<S: Side>(recording: &[u8]) -> Opened {
     let mut sizes = [7; RECORDED_FRAMES];
     let mut result = [77; 4];
-    let number = S::recording_open(recording, &mut sizes, &mut result);
+    let returned = S::recording_open(recording, &mut sizes, &mut result);
     assert_eq!(result[3], 77);
-    if number != 0 {
+    if returned != 0 {
         assert_eq!((sizes, result), ([7; RECORDED_FRAMES], [77; 4]));
-        return Err(number);
+        return Err(returned);
     }
     let (sizes, zeros) = sizes.split_at(result[0] as usize);
     assert!(zeros.iter().all(|&entry| entry == 0));
@@ -24,11 +24,11 @@ fn open<S: Side>(recording: &[u8]) -> Opened {
 fn record<S: Side>(sizes: &[u16], octets: &[u8], length: usize) -> Result<Vec<u8>, u32> {
     let mut output = vec![0xee; length];
     let mut result = [77; 4];
-    let number = S::record(sizes, octets, &mut output, &mut result);
+    let returned = S::record(sizes, octets, &mut output, &mut result);
     assert_eq!(result[1..], [77; 3]);
-    if number != 0 {
+    if returned != 0 {
         assert_eq!((&output, result[0]), (&vec![0xee; length], 77));
-        return Err(number);
+        return Err(returned);
     }
     let behind = output.split_off(result[0] as usize);
     assert!(behind.iter().all(|&octet| octet == 0xee));
@@ -154,8 +154,8 @@ fn plays<S: Side>() {
         let mut result = [77; 4];
         let bundles: (&mut [u8], &mut [u16]) = (&mut output, &mut lengths);
         let notes: (&mut [u32], &mut [u32]) = (&mut places, &mut reasons);
-        let number = S::play(&recording, limit, &mut pool, bundles, notes, &mut result);
-        assert_eq!((number, result), (0, expected), "{}: {limit}", S::NAME);
+        let returned = S::play(&recording, limit, &mut pool, bundles, notes, &mut result);
+        assert_eq!((returned, result), (0, expected), "{}: {limit}", S::NAME);
         let [_, bundles, octets, refused] = expected.map(|entry| entry as usize);
         begins(&output, &b"ABCDE"[..octets], 0xee);
         begins(&lengths, &[3, 2, 0][..bundles], 0xeee);
@@ -204,8 +204,8 @@ fn play_refuses<S: Side>() {
         let notes: (&mut [u32], &mut [u32]) = (&mut vec![0; places], &mut vec![0; reasons]);
         let mut result = [77; 4];
         let pool = &mut vec![0; pool];
-        let refused = S::play(recording, 9, pool, bundles, notes, &mut result);
-        assert_eq!(refused, number, "{}: {name}", S::NAME);
+        let returned = S::play(recording, 9, pool, bundles, notes, &mut result);
+        assert_eq!(returned, number, "{}: {name}", S::NAME);
         let entry = if number == 0 { 0 } else { 77 };
         assert_eq!(result, [entry; 4], "{}: {name}", S::NAME);
     }

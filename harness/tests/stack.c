@@ -57,7 +57,13 @@ static void add_hints(uint8_t last)
 
 static void *start_receiver(void *unused)
 {
-    expect(btpu_receiver_start(board, sizeof board) == 0, "receiver_start");
+    expect(btpu_receiver_start(board) == 0, "receiver_start");
+    return unused;
+}
+
+static void *check_receiver(void *unused)
+{
+    expect(btpu_receiver_check(board) == 0, "receiver_check");
     return unused;
 }
 
@@ -67,8 +73,8 @@ static void *receive(void *unused)
     for (size_t k = 0; k < frames; at += sizes[k++]) {
         uint64_t next = 0;
         for (;;) {
-            if (btpu_receive(board, sizeof board, pool, sizeof pool, joined + at, sizes[k], next,
-                             output, sizeof output, result) != 0) {
+            if (btpu_receive(board, pool, sizeof pool, joined + at, sizes[k], next, output,
+                             sizeof output, result) != 0) {
                 refused++;
                 break;
             }
@@ -84,26 +90,31 @@ static void *receive(void *unused)
 
 static void *start_sender(void *unused)
 {
-    expect(btpu_sender_start(sender, sizeof sender, FRAME_SIZE, 0) == 0, "sender_start");
+    expect(btpu_sender_start(sender, FRAME_SIZE, 0) == 0, "sender_start");
+    return unused;
+}
+
+static void *check_sender(void *unused)
+{
+    expect(btpu_sender_check(sender) == 0, "sender_check");
     return unused;
 }
 
 static void *place(void *unused)
 {
-    expect(btpu_place(sender, sizeof sender, bundle, sizeof bundle, frame, sizeof frame, result) == 0,
-           "place");
+    expect(btpu_place(sender, bundle, sizeof bundle, frame, sizeof frame, result) == 0, "place");
     return unused;
 }
 
 static void *cancel(void *unused)
 {
-    expect(btpu_cancel(sender, sizeof sender, frame, sizeof frame, result) == 0, "cancel");
+    expect(btpu_cancel(sender, frame, sizeof frame, result) == 0, "cancel");
     return unused;
 }
 
 static void *flush(void *unused)
 {
-    expect(btpu_flush(sender, sizeof sender, frame, sizeof frame, result) == 0, "flush");
+    expect(btpu_flush(sender, frame, sizeof frame, result) == 0, "flush");
     return unused;
 }
 
@@ -172,7 +183,8 @@ int main(void)
         size_t most;
     } calls[] = {
         {"receiver_start", start_receiver, BTPU_STACK}, {"receive", receive, BTPU_STACK},
-        {"sender_start", start_sender, BTPU_STACK},     {"place", place, BTPU_STACK},
+        {"receiver_check", check_receiver, BTPU_STACK}, {"sender_start", start_sender, BTPU_STACK},
+        {"place", place, BTPU_STACK},                   {"sender_check", check_sender, BTPU_STACK},
         {"cancel", cancel, BTPU_STACK},                 {"flush", flush, BTPU_STACK},
         {"record", record, BTPU_STACK},                 {"recording_open", open_recording, BTPU_STACK},
         {"play", play, BTPU_PLAY_STACK},

@@ -73,8 +73,8 @@ impl Digest {
 }
 
 /// The image of a vector's state, or the name of an entry that the image cannot hold.
-fn receiver_image(state: &Json) -> Result<Vec<u8>, &'static str> {
-    let mut image = vec![0; RECEIVER_IMAGE];
+fn receiver_image(state: &Json) -> Result<[u8; RECEIVER_IMAGE], &'static str> {
+    let mut image = [0; RECEIVER_IMAGE];
     image[0] = state.at("g_known").flag().into();
     let greatest = u32::try_from(state.at("g").unsigned()).map_err(|_| "g")?;
     image[4..8].copy_from_slice(&greatest.to_be_bytes());
@@ -123,8 +123,7 @@ struct Digests {
     output: Digest,
 }
 
-fn run_receiver<S: Side>(line: &Json, state: &[u8], digests: &mut Digests) {
-    let mut state = state.to_vec();
+fn run_receiver<S: Side>(line: &Json, mut state: [u8; RECEIVER_IMAGE], digests: &mut Digests) {
     let pool = line.at("pool");
     let mut pool = pool_pattern(size(pool.at("len")), size(pool.at("seed")));
     for (count, call) in line.at("calls").list().iter().enumerate() {
@@ -136,7 +135,8 @@ fn run_receiver<S: Side>(line: &Json, state: &[u8], digests: &mut Digests) {
         let mut output = vec![call.at("out_fill").unsigned() as u8; size(call.at("out_len"))];
         let mut result = UNTOUCHED;
         let place = call.at("place").unsigned();
-        let number = match call.get("pool_len") {
+        let checked = S::receiver_check(&state);
+        let returned = match call.get("pool_len") {
             None => S::receive(
                 &mut state,
                 &mut pool,
@@ -149,7 +149,7 @@ fn run_receiver<S: Side>(line: &Json, state: &[u8], digests: &mut Digests) {
                 let mut other = pool.clone();
                 other.resize(size(length), 0);
                 let lent = other.clone();
-                let number = S::receive(
+                let returned = S::receive(
                     &mut state,
                     &mut other,
                     &frame,
@@ -158,17 +158,14 @@ fn run_receiver<S: Side>(line: &Json, state: &[u8], digests: &mut Digests) {
                     &mut result,
                 );
                 assert!(other == lent, "{context}: the other pool changed");
-                number
+                returned
             }
         };
         let mut expected = UNTOUCHED;
+        let mut refusal = 0;
         match call.at("answer").text() {
-            "finished" => {
-                assert_eq!(number, 0, "{context}");
-                expected[0] = 0;
-            }
+            "finished" => expected[0] = 0,
             "bundle" => {
-                assert_eq!(number, 0, "{context}");
                 expected[0] = 1;
                 expected[1] = call.at("length").unsigned();
                 expected[2] = call.at("next").unsigned();
@@ -185,14 +182,17 @@ fn run_receiver<S: Side>(line: &Json, state: &[u8], digests: &mut Digests) {
                 }
             }
             "refused" => {
-                assert_eq!(u64::from(number), call.at("no").unsigned(), "{context}");
+                refusal = call.at("no").unsigned();
+                assert_ne!(refusal, 0, "{context}");
                 match call.at("at") {
-                    Json::Null => assert!(!(4..=8).contains(&number), "{context}"),
-                    at => expected[2] = at.unsigned(),
+                    Json::Null => assert!(!(4..=8).contains(&refusal), "{context}"),
+                    at => refusal += 256 * at.unsigned(),
                 }
             }
             other => panic!("{context}: no such answer: {other}"),
         }
+        assert_eq!(u64::from(returned), refusal, "{context}");
+        assert_eq!(checked, u32::from(refusal == 1), "{context}: check");
         assert_eq!(result, expected, "{context}: result");
         let digest = digests.state.of(&receiver_serialisation(&state));
         assert_eq!(digest, call.at("state_sha256").text(), "{context}: state");
@@ -212,7 +212,7 @@ fn receiver_vectors<S: Side>() -> (usize, usize, Vec<&'static str>) {
         let state = match line.at("state") {
             Json::Text(text) => {
                 assert_eq!(text, "start");
-                let mut state = vec![0xa5; RECEIVER_IMAGE];
+                let mut state = [0xa5; RECEIVER_IMAGE];
                 assert_eq!(S::receiver_start(&mut state), 0);
                 state
             }
@@ -224,7 +224,7 @@ fn receiver_vectors<S: Side>() -> (usize, usize, Vec<&'static str>) {
                 }
             },
         };
-        run_receiver::<S>(&line, &state, &mut digests);
+        run_receiver::<S>(&line, state, &mut digests);
         ran += 1;
         calls += line.at("calls").list().len();
     }
@@ -232,7 +232,7 @@ fn receiver_vectors<S: Side>() -> (usize, usize, Vec<&'static str>) {
 }
 
 /// The image of a vector's state; all the sender's vectors can be held by it.
-fn sender_image(state: &Json) -> Vec<u8> {
+fn sender_image(state: &Json) -> [u8; SENDER_IMAGE] {
     let two = |name| {
         let number = u16::try_from(state.at(name).unsigned()).expect("two octets");
         number.to_be_bytes()
@@ -250,12 +250,16 @@ fn sender_image(state: &Json) -> Vec<u8> {
     image.extend(two("length"));
     image.extend(two("placed"));
     image.extend(four("index"));
-    assert_eq!(image.len(), SENDER_IMAGE);
-    image
+    image.try_into().expect("the image's length")
 }
 
 /// Calls S::place, S::cancel or S::flush.
-fn send<S: Side>(call: &Json, state: &mut [u8], frame: &mut [u8], result: &mut [u64; 4]) -> u32 {
+fn send<S: Side>(
+    call: &Json,
+    state: &mut [u8; SENDER_IMAGE],
+    frame: &mut [u8],
+    result: &mut [u64; 4],
+) -> u32 {
     match call.at("op").text() {
         "place" => {
             let bundle = call.at("bundle");
@@ -270,19 +274,19 @@ fn send<S: Side>(call: &Json, state: &mut [u8], frame: &mut [u8], result: &mut [
 
 fn run_sender<S: Side>(line: &Json, digest: &mut Digest) {
     let id = line.at("id").text();
-    let mut state = vec![0xa5; SENDER_IMAGE];
+    let mut state = [0xa5; SENDER_IMAGE];
     match line.get("start") {
         None => state = sender_image(line.at("state")),
         Some(start) => {
             let first = start.at("first").unsigned() as u32;
-            let number = S::sender_start(&mut state, start.at("P").unsigned(), first);
+            let returned = S::sender_start(&mut state, start.at("P").unsigned(), first);
             if start.at("answer").text() == "refused" {
-                assert_eq!(u64::from(number), start.at("no").unsigned(), "{id}");
+                assert_eq!(u64::from(returned), start.at("no").unsigned(), "{id}");
                 assert_eq!(state, [0xa5; SENDER_IMAGE], "{id}: state changed");
                 assert!(line.at("calls").list().is_empty(), "{id}");
                 return;
             }
-            assert_eq!(number, 0, "{id}");
+            assert_eq!(returned, 0, "{id}");
         }
     }
     let frame = line.at("frame");
@@ -290,14 +294,15 @@ fn run_sender<S: Side>(line: &Json, digest: &mut Digest) {
     for (count, call) in line.at("calls").list().iter().enumerate() {
         let context = format!("{} {id} call {count}", S::NAME);
         let mut result = UNTOUCHED;
-        let number = match call.get("frame_len") {
+        let checked = S::sender_check(&state);
+        let returned = match call.get("frame_len") {
             None => send::<S>(call, &mut state, &mut frame, &mut result),
             Some(length) => {
                 let mut other = frame_pattern(size(length), 0);
                 let lent = other.clone();
-                let number = send::<S>(call, &mut state, &mut other, &mut result);
+                let returned = send::<S>(call, &mut state, &mut other, &mut result);
                 assert!(other == lent, "{context}: the other frame changed");
-                number
+                returned
             }
         };
         let mut expected = UNTOUCHED;
@@ -313,7 +318,8 @@ fn run_sender<S: Side>(line: &Json, digest: &mut Digest) {
             }
             other => panic!("{context}: no such answer: {other}"),
         }
-        assert_eq!(u64::from(number), refusal, "{context}");
+        assert_eq!(u64::from(returned), refusal, "{context}");
+        assert_eq!(checked, u32::from(refusal == 1), "{context}: check");
         assert_eq!(result, expected, "{context}: result");
         assert_eq!(
             state,

@@ -1,7 +1,8 @@
 //! The safe wrapper: the paper's marked cases, and what it answers otherwise.
 
 use harness::ffi::{
-    Received, Receiver, Recording, Refused, RefusedFrame, Sender, Sent, MIN_OUTPUT,
+    Received, Receiver, Recording, Refused, RefusedFrame, Sender, Sent, MIN_OUTPUT, RECEIVER_IMAGE,
+    SENDER_IMAGE,
 };
 
 fn bundle(length: usize, next: u64, number: Option<u32>) -> Result<Received, Refused> {
@@ -59,6 +60,31 @@ fn marked_cases() {
     assert_eq!(receiver.receive(m4, 0, &mut output), finished);
 }
 
+/// Bad messages behind good ones, so that the place takes more than one octet.
+#[test]
+fn refusals_with_a_place() {
+    let bad: [(&[u8], u32); 4] = [
+        (&[3, 0, 0], 4),
+        (&[2, 0, 0, 4, 0x41], 6),
+        (&[2, 0x80, 0, 1, 2], 7),
+        (&[5, 0, 0, 3, 0, 0, 0], 8),
+    ];
+    for (message, number) in bad {
+        for place in [1, 255, 256, 1000, 2048 - message.len()] {
+            let frame = [&vec![0; place], message].concat();
+            let mut receiver = Receiver::start();
+            let mut output = [0xee; MIN_OUTPUT];
+            let answer = receiver.receive(&frame, 0, &mut output);
+            assert_eq!(answer, refused(number, place as u64));
+            assert!(receiver.image == [0; RECEIVER_IMAGE]);
+            assert_eq!(output, [0xee; MIN_OUTPUT]);
+        }
+    }
+    let display = |at| Refused { number: 8, at }.to_string();
+    assert_eq!(display(Some(300)), "refused with 8 at 300");
+    assert_eq!(display(None), "refused with 8");
+}
+
 #[test]
 fn refusals_without_a_place() {
     let mut receiver = Receiver::start();
@@ -69,6 +95,54 @@ fn refusals_without_a_place() {
     assert_eq!(receiver.receive(&[0], 2, &mut output), without(9));
     receiver.image[1] = 1;
     assert_eq!(receiver.receive(&[0], 0, &mut output), without(1));
+}
+
+/// A receiver and a sender stored in the middle of a transfer, and restored.
+#[test]
+fn stored_and_restored() {
+    let bundle: Vec<u8> = (0..300).map(|at| at as u8).collect();
+    let mut sender = Sender::start(128, 9).unwrap();
+    let mut receiver = Receiver::start();
+    let mut received = Vec::new();
+    let mut take = |receiver: &mut Receiver, frame: &[u8]| {
+        let sink = |number, bundle: &[u8]| received.push((number, bundle.to_vec()));
+        receiver.take(frame, sink).unwrap();
+    };
+    assert_eq!(sender.place(&bundle), Ok(Sent::PlacedAndReady));
+    take(&mut receiver, &sender.frame);
+    let mut sender = Sender::restore(sender.image, sender.frame).unwrap();
+    let mut receiver = Receiver::restore(receiver.image, receiver.pool).unwrap();
+    assert!(sender.is_begun());
+    sender
+        .send(&bundle, |frame| take(&mut receiver, frame))
+        .unwrap();
+    assert_eq!(sender.flush(), Ok(Sent::Ready));
+    take(&mut receiver, &sender.frame);
+    assert_eq!(received, [(Some(9), bundle)]);
+}
+
+#[test]
+fn unsound_images_are_not_restored() {
+    let unsound = Refused {
+        number: 1,
+        at: None,
+    };
+    let receiver = Receiver::start();
+    for (at, octet) in [(0, 2), (7, 1), (RECEIVER_IMAGE - 1, 1)] {
+        let mut image = receiver.image;
+        image[at] = octet;
+        let restored = Receiver::restore(image, receiver.pool.clone());
+        assert_eq!(restored.err(), Some(unsound), "octet {at}");
+    }
+    let sender = Sender::start(128, 9).unwrap();
+    for (at, octet) in [(0, 9), (8, 1), (SENDER_IMAGE - 1, 1)] {
+        let mut image = sender.image;
+        image[at] = octet;
+        let restored = Sender::restore(image, sender.frame.clone());
+        assert_eq!(restored.err(), Some(unsound), "octet {at}");
+    }
+    let other_length = Sender::restore(sender.image, vec![0; 129]).err();
+    assert_eq!(other_length.map(|refused| refused.number), Some(10));
 }
 
 #[test]

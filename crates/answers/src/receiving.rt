@@ -3,43 +3,32 @@ use receiver::Answer;
 use receiver::Refusal;
 use receiver::State;
 ghost use mathlib.Core.Path.{_≡_};
-ghost use lib.ListN.{length};
+ghost use Prim.Native.Nat.{_<_};
+ghost use Rattle.wire.specs.Frame.{frameMax};
 ghost use Rattle.receiver.specs.Receive as Call;
-ghost use Rattle.images.specs.Receiver.{imageSize};
 ghost use Rattle.answers.specs.Receiver as Spec;
 
-// 0, or the refusal's number.
-pub fn status(answer: Answer) -> u32
-    ensures { λ r. ⌜ r ≡ Spec.status answer ⌝ }
-{
-    match answer {
-        Answer::Delivered {
-            length: _,
-            next: _,
-            origin: _,
-        } => 0,
-        Answer::Finished => 0,
-        Answer::Refused(refusal) => receiver::refusal_number(refusal),
-    }
-}
-
-// The place that a refusal names.
-fn put_place(result: &mut [u64; 4], refusal: Refusal)
-    ensures { λ _. ⌜ now (result .exit) ≡ Spec.named (Call.refusalPlace refusal) (now (result .entry)) ⌝ }
+// The refusal's number, and above its 8 bits the place that it names.
+fn refusal_code(refusal: Refusal) -> u32
+    requires { ⌜ Call.named (Call.refusalPlace refusal) < frameMax ⌝ }
+    ensures { λ r. ⌜ r ≡ Spec.code refusal ⌝ }
 {
     match refusal {
-        Refusal::Unsound => {}
-        Refusal::BufferSize => {}
-        Refusal::FrameSize => {}
-        Refusal::Malformed(_, place) => {
-            result[2] = place as u64;
-        }
-        Refusal::Misplaced => {}
+        Refusal::Unsound => 1,
+        Refusal::BufferSize => 2,
+        Refusal::FrameSize => 3,
+        Refusal::Malformed(fault, place) => wire::fault_number(fault) + place as u32 * 256,
+        Refusal::Misplaced => 9,
     }
 }
 
-pub fn put_report(result: &mut [u64; 4], answer: Answer)
-    ensures { λ _. ⌜ now (result .exit) ≡ Spec.report answer (now (result .entry)) ⌝ }
+// Keeps the state and reports the answer; a refused call writes nothing.
+pub fn finish(image: &mut [u8; 3144], answer: Answer, state: State, result: &mut [u64; 4]) -> u32
+    requires { ⌜ Spec.place answer < frameMax ⌝ }
+    ensures { λ r. ⌜
+        (r ≡ Spec.status answer)
+        × (now (image .exit) ≡ Spec.kept answer (now (image .entry)) state)
+        × (now (result .exit) ≡ Spec.report answer (now (result .entry))) ⌝ }
 {
     match answer {
         Answer::Delivered {
@@ -47,28 +36,18 @@ pub fn put_report(result: &mut [u64; 4], answer: Answer)
             next,
             origin,
         } => {
+            images::receiving::put_state(image, state);
             let number = messages::origin_number(origin);
             *result = [1, length as u64, next as u64, number];
+            return 0;
         }
         Answer::Finished => {
+            images::receiving::put_state(image, state);
             result[0] = 0;
+            return 0;
         }
-        Answer::Refused(refusal) => put_place(result, refusal),
-    }
-}
-
-// A refused call leaves the image.
-pub fn keep(image: &mut [u8], answer: Answer, state: State)
-    requires { ⌜ length (now image) ≡ imageSize ⌝ }
-    ensures { λ _. ⌜ now (image .exit) ≡ Spec.kept answer (now (image .entry)) state ⌝ }
-{
-    match answer {
-        Answer::Delivered {
-            length: _,
-            next: _,
-            origin: _,
-        } => images::receiving::put_state(image, state),
-        Answer::Finished => images::receiving::put_state(image, state),
-        Answer::Refused(_) => {}
+        Answer::Refused(refusal) => {
+            return refusal_code(refusal);
+        }
     }
 }

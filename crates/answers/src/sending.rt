@@ -3,9 +3,7 @@ use sender::Answer;
 use sender::Sent;
 use sender::State;
 ghost use mathlib.Core.Path.{_≡_};
-ghost use lib.ListN.{length};
 ghost use Rattle.framing.specs.Answers.{reply};
-ghost use Rattle.images.specs.Sender.{imageSize};
 ghost use Rattle.answers.specs.Sender as Spec;
 
 // 0, or the refusal's number.
@@ -42,8 +40,7 @@ fn put_report(result: &mut [u64; 4], answer: Answer)
 }
 
 // A refused call leaves the image.
-fn keep(image: &mut [u8], answer: Answer, state: State)
-    requires { ⌜ length (now image) ≡ imageSize ⌝ }
+fn keep(image: &mut [u8; 24], answer: Answer, state: State)
     ensures { λ _. ⌜ now (image .exit) ≡ Spec.kept (reply answer) (now (image .entry)) state ⌝ }
 {
     match answer {
@@ -55,9 +52,8 @@ fn keep(image: &mut [u8], answer: Answer, state: State)
     }
 }
 
-// Keeps the state and reports the answer.
-pub fn finish(image: &mut [u8], sent: Sent, result: &mut [u64; 4]) -> u32
-    requires { ⌜ length (now image) ≡ imageSize ⌝ }
+// Keeps the state and reports the answer; a refused call writes nothing.
+pub fn finish(image: &mut [u8; 24], sent: Sent, result: &mut [u64; 4]) -> u32
     ensures { λ r. ⌜
         (r ≡ Spec.status (reply (sent .answer)))
         × (now (image .exit) ≡ Spec.kept (reply (sent .answer)) (now (image .entry)) (sent .state))

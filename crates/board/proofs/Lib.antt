@@ -4,8 +4,10 @@
 --     RecordingCalls  the calls on recordings
 --     Kept            what the calls on recordings keep
 --     Reserved        reserved flag bits are ignored
+--     Refused         a refused call changes nothing that it was lent
 pub mod ReceiverCalls
 pub mod SenderCalls
 pub mod RecordingCalls
 pub mod Kept
 pub mod Reserved
+pub mod Refused

@@ -1,16 +1,30 @@
 -- The receiving call on images: what a refused image and a taken one give.
 use mathlib.Core.Bool.{true, false}
 use mathlib.Core.List.{List}
-use mathlib.Core.Path.{_≡_}
-use Prim.Native.Nat.{ℕ}
+use mathlib.Core.Path.{_≡_, sym, ap}
+use Prim.Native.Nat.{ℕ, _<_}
+use native.Mathlib.Omega.{arith}
+use Rattle.wire.specs.Frame.{frameMax}
 use Rattle.window.specs.Window.{windowSize}
 use Rattle.receiver.specs.declared.Received.{Received}
 use Rattle.rows.specs.declared.State.{State}
-use Rattle.rows.specs.Message.{draft02}
-use Rattle.receiver.specs.Receive.{reply, receive}
+use Rattle.receiver.specs.declared.Answer.{Answer}
+use Rattle.receiver.specs.declared.Answer.the-variants.{Delivered, Finished, Refused}
+use Rattle.rows.specs.Message.{draft02, Board}
+use Rattle.receiver.specs.Receive.{Reply, reply, receive}
+use Rattle.receiver.proofs.Bounds.{place-within}
 use Rattle.images.specs.Receiver.{isImage, stateOf}
-use Rattle.answers.specs.Receiver.{status, report, kept}
+use Rattle.answers.specs.Receiver.{status, place, report, kept}
 use Rattle.board.specs.Receiver.{Exported, exported, received}
+
+-- the place that an answer names lies in a frame
+pub low-place : (b : Board) (frame : List ℕ) (n : ℕ) (output : List ℕ) (r : Received) (pool output′ : List ℕ) → reply r pool output′ ≡ receive draft02 windowSize b frame n output → place (r .answer) < frameMax
+low-place b frame n output r pool output′ e = go (r .answer) (ap (λ (x : Reply). x .answer) (sym e))
+  where
+    go : (a : Answer) → receive draft02 windowSize b frame n output .answer ≡ a → place a < frameMax
+    go (Delivered length next origin) q = omega arith
+    go Finished q = omega arith
+    go (Refused refusal) q = place-within draft02 windowSize b frame n output refusal q
 
 pub image-refused : (image pool frame : List ℕ) (place : ℕ) (output result : List ℕ) → isImage image ≡ false
     → _≡_ {A = Exported} (record { status = 1; image = image; pool = pool; output = output; result = result }) (received image pool frame place output result)

@@ -1,6 +1,6 @@
 -- `btpu_receive` ignores reserved flag bits: frames that differ in them alone get the same number, and leave the same octets in image, pool,
 -- output and result. Refusal 5 is never given.
-use mathlib.Core.Path.{_≡_}
+use mathlib.Core.Path.{_≡_, sym, _∙_}
 use mathlib.Core.Bool.{Bool, true, false, cond}
 use mathlib.Core.List.{List}
 use Prim.Native.Nat.{ℕ}
@@ -14,7 +14,8 @@ use Rattle.receiver.specs.Receive.{Reply, receive}
 use Rattle.receiver.proofs.Refusals as Refusals
 use Rattle.receiver.proofs.Reserved as Receiver
 use Rattle.images.specs.Receiver.{isImage, stateOf}
-use Rattle.answers.specs.Receiver.{status}
+use Rattle.answers.specs.Receiver.{status, numberIn}
+use Rattle.answers.proofs.Codes.{number-back}
 use Rattle.board.specs.Receiver.{exported, received}
 
 pub reserved-ignored : (image pool : List ℕ) {f g : List ℕ} → SameButReserved f g → (place : ℕ) (output result : List ℕ)
@@ -22,18 +23,18 @@ pub reserved-ignored : (image pool : List ℕ) {f g : List ℕ} → SameButReser
 unfolding received
 reserved-ignored image pool r place output result = rw (Receiver.reserved-ignored windowSize (record { state = stateOf image; pool = pool }) r place output)
 
-not-five : (a : Answer) → status a ≡ 5 → ⊥
+not-five : (a : Answer) → numberIn (status a) ≡ 5 → ⊥
 not-five (Delivered length next origin) e = omega arith
 not-five Finished e = omega arith
-not-five (Refused q) e = Refusals.never-five q e
+not-five (Refused q) e = Refusals.never-five q (sym (number-back q) ∙ e)
 
-pub never-five : (image pool frame : List ℕ) (place : ℕ) (output result : List ℕ) → received image pool frame place output result .status ≡ 5 → ⊥
+pub never-five : (image pool frame : List ℕ) (place : ℕ) (output result : List ℕ) → numberIn (received image pool frame place output result .status) ≡ 5 → ⊥
 unfolding received exported
 never-five image pool frame place output result = go (isImage image)
   where
     r : Reply
     r = receive draft02 windowSize (record { state = stateOf image; pool = pool }) frame place output
 
-    go : (b : Bool) → cond b (exported r image result) (record { status = 1; image = image; pool = pool; output = output; result = result }) .status ≡ 5 → ⊥
+    go : (b : Bool) → numberIn (cond b (exported r image result) (record { status = 1; image = image; pool = pool; output = output; result = result }) .status) ≡ 5 → ⊥
     go true e = not-five (r .answer) e
     go false e = omega arith

@@ -3,8 +3,6 @@ use mathlib.Core.Bool.{true, false}
 use mathlib.Core.List.{List}
 use mathlib.Core.Path.{_≡_}
 use Prim.Native.Nat.{ℕ}
-use lib.ListN.{length}
-use borrow.Author.Tests.{eq-eqb}
 use Rattle.framing.specs.declared.Refusal.{Refusal}
 use Rattle.framing.specs.declared.Sent.{Sent}
 use Rattle.framing.specs.declared.State.{State}
@@ -13,7 +11,7 @@ use Rattle.sender.specs.declared.Started.{Started}
 use Rattle.sender.specs.declared.Started.the-variants.{Made, Refused}
 use Rattle.sender.specs.Answers.{startReply}
 use Rattle.sender.specs.Calls as Calls
-use Rattle.images.specs.Sender.{imageSize, isImage, imageOf}
+use Rattle.images.specs.Sender.{isImage, imageOf}
 use Rattle.answers.specs.Sender.{status, report, kept}
 use Rattle.board.specs.Sender.{Exported, exported, unlessImage, startedWith, started}
 
@@ -29,12 +27,12 @@ pub image-answered : (image frame result : List ℕ) → isImage image ≡ true 
 unfolding unlessImage exported
 image-answered image frame result h o r frame′ e n image′ result′ en ei er = rw (h, ← e, en, ei, er)
 
-pub sender-made : (image image′ : List ℕ) (size first : ℕ) (s : Started) (m : State) → length image ≡ imageSize → startReply s ≡ Calls.start size first → s ≡ Made m
+pub sender-made : (image image′ : List ℕ) (size first : ℕ) (s : Started) (m : State) → startReply s ≡ Calls.start size first → s ≡ Made m
     → image′ ≡ imageOf m → _≡_ {A = ℕ × List ℕ} (0, image′) (started image size first)
 unfolding started startedWith startReply
-sender-made image image′ size first s m full e es ei = rw (eq-eqb _ _ full, ← e, es, ei)
+sender-made image image′ size first s m e es ei = rw (← e, es, ei)
 
-pub sender-denied : (image : List ℕ) (size first : ℕ) (s : Started) (r : Refusal) (n : ℕ) → length image ≡ imageSize → startReply s ≡ Calls.start size first → s ≡ Refused r
+pub sender-denied : (image : List ℕ) (size first : ℕ) (s : Started) (r : Refusal) (n : ℕ) → startReply s ≡ Calls.start size first → s ≡ Refused r
     → n ≡ refusalNumber r → _≡_ {A = ℕ × List ℕ} (n, image) (started image size first)
 unfolding started startedWith startReply
-sender-denied image size first s r n full e es en = rw (eq-eqb _ _ full, ← e, es, en)
+sender-denied image size first s r n e es en = rw (← e, es, en)

@@ -1,3 +1,4 @@
 pub mod Receiver
 pub mod Sender
 pub mod Recordings
+pub mod Refused

@@ -1,14 +1,13 @@
 -- The sender for hosts in other languages: its calls on images of its state, its answer as a number and the first entry of an array.
-use mathlib.Core.Bool.{cond}
+use mathlib.Core.Bool.{cond, _&&_}
 use mathlib.Core.List.{List}
 use Prim.Native.Nat.{ℕ}
-use lib.ListN.{length}
-use lib.Dec.{eqb}
 use Rattle.framing.specs.Answers.{Outcome}
 use Rattle.sender.specs.Answers.{StartReply, made, denied}
+use Rattle.sender.specs.Sound.{sound}
 use Rattle.sender.specs.Calls as Calls
 use Rattle.answers.specs.Sender.{status, report, kept}
-use Rattle.images.specs.Sender.{imageSize, isImage, stateOf, imageOf}
+use Rattle.images.specs.Sender.{isImage, stateOf, imageOf}
 
 -- what a call returns, 0 or the refusal's number, and what it leaves of the image, the frame buffer and the result
 pub record Exported : Type 0 where
@@ -37,6 +36,9 @@ unfoldable pub startedWith : StartReply → List ℕ → ℕ × List ℕ
 startedWith (made s) image = (0, imageOf s)
 startedWith (denied n) image = (n, image)
 
--- an image of another length is refused before the frame size
 unfoldable pub started : List ℕ → ℕ → ℕ → ℕ × List ℕ
-started image size first = cond (eqb (length image) imageSize) (startedWith (Calls.start size first) image) (1, image)
+started image size first = startedWith (Calls.start size first) image
+
+-- 0, or 1 for octets that are not the image of a sound state
+unfoldable pub checked : List ℕ → ℕ
+checked image = cond (isImage image && sound (stateOf image)) 0 1

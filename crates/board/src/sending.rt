@@ -1,5 +1,4 @@
 // The sender's calls, on an image of its state.
-use images::sending::IMAGE_SIZE;
 use sender::Started;
 ghost use mathlib.Core.Path.{_≡_};
 ghost use mathlib.Core.List.{List};
@@ -8,19 +7,29 @@ ghost use Rattle.board.specs.Sender as Spec;
 
 // Makes the image of a fresh sender.
 #[no_mangle]
-pub extern "C" fn btpu_sender_start(state: &mut [u8], size: u64, first: u32) -> u32
+pub extern "C" fn btpu_sender_start(state: &mut [u8; 24], size: u64, first: u32) -> u32
     ensures { λ r. ⌜ _≡_ {A = ℕ × List ℕ} (r, now (state .exit)) (Spec.started (now (state .entry)) size first) ⌝ }
 {
-    if state.len() == IMAGE_SIZE {
-        let s = sender::start(size as usize, first);
-        match s {
-            Started::Made(made) => {
-                images::sending::put_state(state, made);
-                return 0;
-            }
-            Started::Refused(refusal) => {
-                return sender::refusal_number(refusal);
-            }
+    let s = sender::start(size as usize, first);
+    match s {
+        Started::Made(made) => {
+            images::sending::put_state(state, made);
+            return 0;
+        }
+        Started::Refused(refusal) => {
+            return sender::refusal_number(refusal);
+        }
+    }
+}
+
+// Whether an image is a sound state.
+#[no_mangle]
+pub extern "C" fn btpu_sender_check(state: &[u8; 24]) -> u32
+    ensures { λ r. ⌜ r ≡ Spec.checked (now (state .entry)) ⌝ }
+{
+    if images::sending::is_image(state) {
+        if sender::sound(images::sending::state_of(state)) {
+            return 0;
         }
     }
     1
@@ -29,7 +38,7 @@ pub extern "C" fn btpu_sender_start(state: &mut [u8], size: u64, first: u32) -> 
 // Placing a bundle, on an image.
 #[no_mangle]
 pub extern "C" fn btpu_place(
-    state: &mut [u8],
+    state: &mut [u8; 24],
     bundle: &[u8],
     frame: &mut [u8],
     result: &mut [u64; 4],
@@ -38,8 +47,8 @@ pub extern "C" fn btpu_place(
         record { status = r; image = now (state .exit); frame = now (frame .exit); result = now (result .exit) }
         ≡ Spec.placedBy (now (state .entry)) (now (bundle .entry)) (now (frame .entry)) (now (result .entry)) ⌝ }
 {
-    if images::sending::is_image(&state[..]) {
-        let s = images::sending::state_of(&state[..]);
+    if images::sending::is_image(state) {
+        let s = images::sending::state_of(state);
         let sent = sender::place(s, bundle, frame);
         return answers::sending::finish(state, sent, result);
     }
@@ -48,13 +57,13 @@ pub extern "C" fn btpu_place(
 
 // Cancelling the transfer begun, on an image.
 #[no_mangle]
-pub extern "C" fn btpu_cancel(state: &mut [u8], frame: &mut [u8], result: &mut [u64; 4]) -> u32
+pub extern "C" fn btpu_cancel(state: &mut [u8; 24], frame: &mut [u8], result: &mut [u64; 4]) -> u32
     ensures { λ r. ⌜
         record { status = r; image = now (state .exit); frame = now (frame .exit); result = now (result .exit) }
         ≡ Spec.cancelledBy (now (state .entry)) (now (frame .entry)) (now (result .entry)) ⌝ }
 {
-    if images::sending::is_image(&state[..]) {
-        let s = images::sending::state_of(&state[..]);
+    if images::sending::is_image(state) {
+        let s = images::sending::state_of(state);
         let sent = sender::cancel(s, frame);
         return answers::sending::finish(state, sent, result);
     }
@@ -63,13 +72,13 @@ pub extern "C" fn btpu_cancel(state: &mut [u8], frame: &mut [u8], result: &mut [
 
 // Flushing, on an image.
 #[no_mangle]
-pub extern "C" fn btpu_flush(state: &mut [u8], frame: &mut [u8], result: &mut [u64; 4]) -> u32
+pub extern "C" fn btpu_flush(state: &mut [u8; 24], frame: &mut [u8], result: &mut [u64; 4]) -> u32
     ensures { λ r. ⌜
         record { status = r; image = now (state .exit); frame = now (frame .exit); result = now (result .exit) }
         ≡ Spec.flushedBy (now (state .entry)) (now (frame .entry)) (now (result .entry)) ⌝ }
 {
-    if images::sending::is_image(&state[..]) {
-        let s = images::sending::state_of(&state[..]);
+    if images::sending::is_image(state) {
+        let s = images::sending::state_of(state);
         let sent = sender::flush(s, frame);
         return answers::sending::finish(state, sent, result);
     }

@@ -1,18 +1,14 @@
 -- The sender's state as octets.
-use mathlib.Core.Bool.{true, _&&_}
 use mathlib.Core.List.{List, [], _∷_, _++_}
 use mathlib.Core.Path.{_≡_, refl, _∙_}
 use Prim.Native.Nat.{ℕ}
 use native.Mathlib.Omega.{arith}
-use lib.Dec.{eqb, leb}
-use lib.ListN.{length, getD}
-use borrow.Author.Tests.{eqb-true}
+use lib.ListN.{length}
 use Rattle.octets.specs.Octets.{be16, be32, put}
-use Rattle.octets.proofs.Flags.{both}
 use Rattle.octets.proofs.Put.{put-put, put-whole}
 use Rattle.framing.specs.declared.State.{State}
 use Rattle.images.specs.Receiver.{flag}
-use Rattle.images.specs.Sender.{imageSize, isImage, imageOf}
+use Rattle.images.specs.Sender.{imageSize, imageOf}
 
 pub state-written : (d d₁ d₂ d₃ d₄ d₅ d₆ d₇ d₈ : List ℕ) (s : State) (f : ℕ) → f ≡ flag (s .begun) → length d ≡ imageSize → d₁ ≡ put d 0 (be16 (s .size))
     → d₂ ≡ put d₁ 2 (be16 (s .fill)) → d₃ ≡ put d₂ 4 (be32 (s .next)) → d₄ ≡ put d₃ 8 (f ∷ 0 ∷ 0 ∷ 0 ∷ []) → d₅ ≡ put d₄ 12 (be32 (s .number))
@@ -34,9 +30,3 @@ state-written d d₁ d₂ d₃ d₄ d₅ d₆ d₇ d₈ s f ef full e₁ e₂ e�
     let a₇ : d₇ ≡ put d 0 x₇ = e₇ ∙ rw a₆ (put-put d 0 18 x₆ (be16 (s .placed)) refl (omega arith)) in
     let a₈ : d₈ ≡ put d 0 (x₇ ++ be32 (s .index)) = e₈ ∙ rw a₇ (put-put d 0 20 x₇ (be32 (s .index)) refl (omega arith)) in
     a₈ ∙ put-whole d (x₇ ++ be32 (s .index)) (omega arith)
-
-pub image-full : (xs : List ℕ) → isImage xs ≡ true → length xs ≡ imageSize
-unfolding isImage
-image-full xs e =
-    eqb-true (length xs) imageSize
-    (both (eqb (length xs) imageSize) (leb (getD xs 8 0) 1 && eqb (getD xs 9 0) 0 && eqb (getD xs 10 0) 0 && eqb (getD xs 11 0) 0) e .0)

@@ -8,7 +8,7 @@ use native.Mathlib.Omega.{arith}
 use lib.Dec.{eqb, leb, ltb}
 use lib.ListN.{length, getD, take, drop}
 use lib.Seq.{take-at, drop-at, getD-take, getD-drop}
-use borrow.Author.Tests.{eq-eqb, eqb-true, ltb-true, ltb-false}
+use borrow.Author.Tests.{eqb-true, ltb-true, ltb-false}
 use Rattle.octets.specs.Octets.{be32, spread, sumOf}
 use Rattle.octets.proofs.Flags.{bool, and, both}
 use Rattle.octets.proofs.Numbers.{number-be32}
@@ -114,8 +114,11 @@ pub image-of-is : (s : State) → StateFits s → isImage (imageOf s) ≡ true
 unfolding isImage imageOf be32
 image-of-is s f =
     let rows : areRows windowSize (rowsImage (s .rows)) ≡ true = rw append-nil at (are-rows-back [] (s .rows) windowSize (f .full) (f .rows)) in
-    let size : length (imageOf s) ≡ imageSize = omega (arith, length-rows (s .rows) (f .rows), f .full) in
-    rw (eq-eqb _ _ size, flag-low (s .present), rows)
+    rw (flag-low (s .present), rows)
+
+pub length-image : (s : State) → StateFits s → length (imageOf s) ≡ imageSize
+unfolding imageOf be32
+length-image s f = omega (arith, length-rows (s .rows) (f .rows), f .full)
 
 -- ---- sound states
 

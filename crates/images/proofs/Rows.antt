@@ -1,5 +1,5 @@
 -- The receiver's state as octets.
-use mathlib.Core.Bool.{Bool, true, _&&_, and-true, and-assoc}
+use mathlib.Core.Bool.{Bool, _&&_, and-true, and-assoc}
 use mathlib.Core.List.{List, [], _∷_, _++_}
 use mathlib.Core.Path.{_≡_, refl, sym, ap, _∙_}
 use Prim.Native.Nat.{ℕ, zero, suc, _+_, _-_, _*_, _%_, _≤_, _<_}
@@ -9,9 +9,7 @@ use native.Mathlib.Omega.{arith}
 use lib.Dec.{leb, eqb}
 use lib.ListN.{length, getD, take, drop, set, length-append, length-take, length-drop}
 use lib.Seq.{take-all, drop-drop, getD-drop}
-use borrow.Author.Tests.{eqb-true}
 use Rattle.octets.specs.Octets.{be32, pairs, spread, put}
-use Rattle.octets.proofs.Flags.{both}
 use Rattle.octets.proofs.Put.{put-whole, put-put}
 use Rattle.octets.proofs.Series.{read-turn, read-end, write-turn, write-end}
 use Rattle.octets.proofs.Pairs.{length-spread}
@@ -20,7 +18,7 @@ use Rattle.row.specs.declared.Row.{Row}
 use Rattle.row.proofs.Shaped.{Shaped}
 use Rattle.rows.specs.declared.State.{State}
 use Rattle.window.specs.Window.{windowSize}
-use Rattle.images.specs.Receiver.{imageSize, rowSize, phaseOf, isRow, rowOf, areRows, rowsOf, isImage, phaseCode, flag, rowImage, rowsImage, imageOf}
+use Rattle.images.specs.Receiver.{imageSize, rowSize, phaseOf, isRow, rowOf, areRows, rowsOf, phaseCode, flag, rowImage, rowsImage, imageOf}
 
 -- ---- the tests
 
@@ -36,12 +34,6 @@ pub are-rows-turn : (good : Bool) (k : ℕ) (xs : List ℕ) → good ≡ areRows
 unfolding isRow
 are-rows-turn good k xs e =
     rw (add-one k, are-rows-last k (drop 8 xs), drop-drop (k * rowSize) 8 xs, getD-drop (8 + k * rowSize) xs 0 0, getD-drop (8 + k * rowSize) xs 1 0, add-zero (8 + k * rowSize), e)
-
-pub image-full : (xs : List ℕ) → isImage xs ≡ true → length xs ≡ imageSize
-unfolding isImage
-image-full xs e =
-    let head : _ = leb (getD xs 0 0) 1 && eqb (getD xs 1 0) 0 && eqb (getD xs 2 0) 0 && eqb (getD xs 3 0) 0 in
-    eqb-true (length xs) imageSize (both (eqb (length xs) imageSize) head (both (eqb (length xs) imageSize && head) (areRows windowSize (drop 8 xs)) e .0) .0)
 
 -- ---- from octets
 

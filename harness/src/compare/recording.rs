@@ -176,16 +176,6 @@ impl Playing {
 }
 
 impl Trial<'_> {
-    /// Checks what was lent to the exported side to be read only.
-    #[track_caller]
-    fn untouched<T>(&self, given: &[T], lent: &Lent<T>, what: &str)
-    where
-        T: Copy + PartialEq + From<u8>,
-    {
-        self.same(given, lent.get(), what);
-        self.check(lent.guards_stay(), "written past what was lent");
-    }
-
     /// Writes a recording into an output of this length; the answer is the recording or the refusal.
     pub fn record(&mut self, sizes: &[u16], octets: &[u8], output: usize) -> Result<Vec<u8>, u32> {
         let lent = self.begin_call();
@@ -194,14 +184,14 @@ impl Trial<'_> {
         let lent_sizes = Lent::new(sizes);
         let lent_octets = Lent::new(octets);
         let (mut result, mut exported_result) = (lent, lent);
-        let number = interface::record(sizes, octets, &mut output.model, &mut result);
-        let exported_number = ffi::record(
+        let returned = interface::record(sizes, octets, &mut output.model, &mut result);
+        let exported = ffi::record(
             lent_sizes.get(),
             lent_octets.get(),
             output.exported.lend(),
             &mut exported_result,
         );
-        self.same_answer((number, result), (exported_number, exported_result));
+        let number = self.same_answer((returned, result), (exported, exported_result));
         self.untouched(sizes, &lent_sizes, "sizes");
         self.untouched(octets, &lent_octets, "octets");
         if number != 0 {
@@ -228,12 +218,15 @@ impl Trial<'_> {
         let mut sizes = Both::new(shorts(&mut self.random, RECORDED_FRAMES));
         let lent_recording = Lent::new(recording);
         let (mut result, mut exported_result) = (lent, lent);
-        let [model, exported] = [&mut sizes.model[..], sizes.exported.lend()]
-            .map(|sizes| sizes.try_into().expect("as many as frames at most"));
-        let number = interface::recording_open(recording, model, &mut result);
-        let exported_number =
-            ffi::recording_open(lent_recording.get(), exported, &mut exported_result);
-        self.same_answer((number, result), (exported_number, exported_result));
+        let model = sizes.model.as_mut_slice().try_into();
+        let model: &mut [u16; RECORDED_FRAMES] = model.expect("as many as frames at most");
+        let returned = interface::recording_open(recording, model, &mut result);
+        let exported = ffi::recording_open(
+            lent_recording.get(),
+            sizes.exported.array(),
+            &mut exported_result,
+        );
+        let number = self.same_answer((returned, result), (exported, exported_result));
         self.untouched(recording, &lent_recording, "recording");
         if number != 0 {
             self.check(result == lent, "result of a refused call");
@@ -267,9 +260,9 @@ impl Trial<'_> {
         self.coverage.recording_calls += 1;
         let mut playing = Playing::new(self, recording, memory);
         let (mut result, mut exported_result) = (lent, lent);
-        let number = playing.model(self, recording, limit, &mut result);
-        let exported_number = playing.exported(limit, &mut exported_result);
-        self.same_answer((number, result), (exported_number, exported_result));
+        let returned = playing.model(self, recording, limit, &mut result);
+        let exported = playing.exported(limit, &mut exported_result);
+        let number = self.same_answer((returned, result), (exported, exported_result));
         self.untouched(recording, &playing.recording, "recording");
         if number != 0 {
             self.check(result == lent, "result of a refused call");

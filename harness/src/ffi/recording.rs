@@ -1,6 +1,6 @@
 //! Recordings for Rust programs: written, opened and played.
 
-use super::{Refused, PLAYED_BUNDLES, POOL, RECORDED_FRAMES, RECORDED_OCTETS};
+use super::{accepted, Refused, PLAYED_BUNDLES, POOL, RECORDED_FRAMES, RECORDED_OCTETS};
 
 /// A recording that was opened.
 #[derive(Clone, Debug)]
@@ -49,7 +49,7 @@ impl<'a> Recording<'a> {
         let mut places = [0; RECORDED_FRAMES];
         let mut reasons = [0; RECORDED_FRAMES];
         let mut result = [0; 4];
-        let number = super::play(
+        let returned = super::play(
             self.recording,
             limit,
             &mut vec![0; POOL],
@@ -57,7 +57,7 @@ impl<'a> Recording<'a> {
             (&mut places, &mut reasons),
             &mut result,
         );
-        assert_eq!(number, 0, "it was opened, and all that is lent suffices");
+        assert_eq!(returned, 0, "it was opened, and all that is lent suffices");
         let [_, bundles, joined, refused] = result.map(|entry| entry as usize);
         octets.truncate(joined);
         lengths.truncate(bundles);
@@ -111,11 +111,4 @@ fn parts<'a, 's>(
         octets = behind;
         part
     })
-}
-
-fn accepted(number: u32) -> Result<(), Refused> {
-    match number {
-        0 => Ok(()),
-        number => Err(Refused { number, at: None }),
-    }
 }

@@ -9,8 +9,7 @@ pub const SENDER: usize = 24;
 
 impl receiver::State {
     /// Nothing for an image that is no state or holds an entry without meaning that is not zero.
-    pub fn decode(image: &[u8]) -> Option<receiver::State> {
-        let image: &[u8; RECEIVER] = image.try_into().ok()?;
+    pub fn decode(image: &[u8; RECEIVER]) -> Option<receiver::State> {
         let (head, rows) = image.split_first_chunk::<8>()?;
         if head[1..4] != [0; 3] {
             return None;
@@ -85,8 +84,7 @@ fn optional<T: PartialEq + From<u8>>(flag: u8, entry: T) -> Option<Option<T>> {
 
 impl sender::State {
     /// Nothing for an image that is no state or holds an entry without meaning that is not zero.
-    pub fn decode(image: &[u8]) -> Option<sender::State> {
-        let image: &[u8; SENDER] = image.try_into().ok()?;
+    pub fn decode(image: &[u8; SENDER]) -> Option<sender::State> {
         let two = |at: usize| u16::from_be_bytes([image[at], image[at + 1]]);
         let four = |at: usize| u32::from(two(at)) << 16 | u32::from(two(at + 2));
         let begun = match image[8] {

@@ -9,18 +9,25 @@ use super::{image, Refusal};
 /// The transfer number of a bundle that came in a bundle message.
 pub const NO_NUMBER: u64 = 1 << 32;
 
-pub fn receiver_start(image: &mut [u8]) -> u32 {
-    match image.try_into() {
-        Ok(image) => {
-            receiver::State::start().encode(image);
-            0
-        }
-        Err(_) => Refusal::UnsoundState.number(),
+pub fn receiver_start(image: &mut [u8; image::RECEIVER]) -> u32 {
+    receiver::State::start().encode(image);
+    0
+}
+
+pub fn receiver_check(image: &[u8; image::RECEIVER]) -> u32 {
+    let state = receiver::State::decode(image);
+    check(state.is_some_and(|state| state.is_sound()))
+}
+
+fn check(sound: bool) -> u32 {
+    match sound {
+        true => 0,
+        false => Refusal::UnsoundState.returned(),
     }
 }
 
 pub fn receive(
-    image: &mut [u8],
+    image: &mut [u8; image::RECEIVER],
     pool: &mut [u8],
     frame: &[u8],
     place: u64,
@@ -29,7 +36,7 @@ pub fn receive(
     observer: &mut impl Observer,
 ) -> u32 {
     let Some(mut state) = receiver::State::decode(image) else {
-        return Refusal::UnsoundState.number();
+        return Refusal::UnsoundState.returned();
     };
     match receiver::receive(&mut state, pool, frame, place, output, observer) {
         Ok(answer) => {
@@ -44,51 +51,52 @@ pub fn receive(
                     *result = [1, length as u64, next as u64, number];
                 }
             }
-            let image: &mut [u8; image::RECEIVER] = image.try_into().expect("it was decoded");
             state.encode(image);
             0
         }
-        Err(refusal) => {
-            if let Refusal::Malformed(_, at) = refusal {
-                result[2] = at as u64;
-            }
-            refusal.number()
-        }
+        Err(refusal) => refusal.returned(),
     }
 }
 
-pub fn sender_start(image: &mut [u8], frame_size: u64, first_number: u32) -> u32 {
-    let Ok(image) = image.try_into() else {
-        return Refusal::UnsoundState.number();
-    };
+pub fn sender_start(image: &mut [u8; image::SENDER], frame_size: u64, first_number: u32) -> u32 {
     match sender::State::start(frame_size, first_number) {
         Ok(state) => {
             state.encode(image);
             0
         }
-        Err(refusal) => refusal.number(),
+        Err(refusal) => refusal.returned(),
     }
 }
 
-pub fn place(image: &mut [u8], bundle: &[u8], frame: &mut [u8], result: &mut [u64; 4]) -> u32 {
+pub fn sender_check(image: &[u8; image::SENDER]) -> u32 {
+    let state = sender::State::decode(image);
+    check(state.is_some_and(|state| state.is_sound()))
+}
+
+pub fn place(
+    image: &mut [u8; image::SENDER],
+    bundle: &[u8],
+    frame: &mut [u8],
+    result: &mut [u64; 4],
+) -> u32 {
     send(image, result, |state| state.place(bundle, frame))
 }
 
-pub fn cancel(image: &mut [u8], frame: &mut [u8], result: &mut [u64; 4]) -> u32 {
+pub fn cancel(image: &mut [u8; image::SENDER], frame: &mut [u8], result: &mut [u64; 4]) -> u32 {
     send(image, result, |state| state.cancel(frame))
 }
 
-pub fn flush(image: &mut [u8], frame: &mut [u8], result: &mut [u64; 4]) -> u32 {
+pub fn flush(image: &mut [u8; image::SENDER], frame: &mut [u8], result: &mut [u64; 4]) -> u32 {
     send(image, result, |state| state.flush(frame))
 }
 
 fn send(
-    image: &mut [u8],
+    image: &mut [u8; image::SENDER],
     result: &mut [u64; 4],
     call: impl FnOnce(&mut sender::State) -> Result<Answer, Refusal>,
 ) -> u32 {
     let Some(mut state) = sender::State::decode(image) else {
-        return Refusal::UnsoundState.number();
+        return Refusal::UnsoundState.returned();
     };
     match call(&mut state) {
         Ok(answer) => {
@@ -98,11 +106,10 @@ fn send(
                 Answer::Ready => 2,
                 Answer::Nothing => 3,
             };
-            let image: &mut [u8; image::SENDER] = image.try_into().expect("it was decoded");
             state.encode(image);
             0
         }
-        Err(refusal) => refusal.number(),
+        Err(refusal) => refusal.returned(),
     }
 }
 
@@ -112,7 +119,7 @@ pub fn record(sizes: &[u16], octets: &[u8], output: &mut [u8], result: &mut [u64
             result[0] = length as u64;
             0
         }
-        Err(refusal) => refusal.number(),
+        Err(refusal) => refusal.returned(),
     }
 }
 
@@ -133,7 +140,7 @@ pub fn recording_open(
             }
             0
         }
-        Err(refusal) => refusal.number(),
+        Err(refusal) => refusal.returned(),
     }
 }
 
@@ -156,6 +163,6 @@ pub fn play(
             ];
             0
         }
-        Err(refusal) => refusal.number(),
+        Err(refusal) => refusal.returned(),
     }
 }

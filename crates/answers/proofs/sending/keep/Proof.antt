@@ -1,7 +1,7 @@
 -- `answers::sending::keep` meets its contract.
+use borrow.Author.Needs.{needs}
 use Rattle.framing.specs.Answers.{reply}
 use Rattle.answers.specs.Sender.{kept}
-use borrow.Author.Needs.{needs}
 use Rattle.answers.proofs.sending.keep.Statement.{statement}
 use Rattle.answers.proofs.sending.keep.Tie as tie
 
@@ -32,33 +32,21 @@ put-state-requires-4 c κs = search needs
 enum-told-5 : tie.Need-enum-told-5
 enum-told-5 c = search needs
 
-same-length : tie.Need-same-length
-same-length c = search needs
-
 returns : tie.Need-returns
 unfolding reply kept
-returns c = rw (c .before .before .before .before .enum-told .given .1) (c .before .before .put-state .ensures)
-
-same-length-2 : tie.Need-same-length-2
-same-length-2 c = search needs
+returns c = rw (c .before .before .enum-told .given .1) (c .put-state .ensures)
 
 returns-2 : tie.Need-returns-2
 unfolding reply kept
-returns-2 c = rw (c .before .before .before .before .enum-told2 .given .1) (c .before .before .put-state2 .ensures)
-
-same-length-3 : tie.Need-same-length-3
-same-length-3 c = search needs
+returns-2 c = rw (c .before .before .enum-told2 .given .1) (c .put-state2 .ensures)
 
 returns-3 : tie.Need-returns-3
 unfolding reply kept
-returns-3 c = rw (c .before .before .before .before .enum-told3 .given .1) (c .before .before .put-state3 .ensures)
-
-same-length-4 : tie.Need-same-length-4
-same-length-4 c = search needs
+returns-3 c = rw (c .before .before .enum-told3 .given .1) (c .put-state3 .ensures)
 
 returns-4 : tie.Need-returns-4
 unfolding reply kept
-returns-4 c = rw (c .before .before .before .before .enum-told4 .given .1) (c .before .before .put-state4 .ensures)
+returns-4 c = rw (c .before .before .enum-told4 .given .1) (c .put-state4 .ensures)
 
 returns-5 : tie.Need-returns-5
 unfolding reply kept
@@ -77,12 +65,8 @@ keep-spec =
     enum-told-4
     put-state-requires-4
     enum-told-5
-    same-length
     returns
-    same-length-2
     returns-2
-    same-length-3
     returns-3
-    same-length-4
     returns-4
     returns-5)

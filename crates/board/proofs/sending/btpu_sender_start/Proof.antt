@@ -1,8 +1,6 @@
 -- `board::sending::btpu_sender_start` meets its contract.
-use borrow.Author.Tests.{ne-eqb}
-use Rattle.board.proofs.SenderCalls.{sender-made, sender-denied}
-use Rattle.board.specs.Sender.{started}
 use borrow.Author.Needs.{needs}
+use Rattle.board.proofs.SenderCalls.{sender-made, sender-denied}
 use Rattle.board.proofs.sending.btpu_sender_start.Statement.{statement}
 use Rattle.board.proofs.sending.btpu_sender_start.Tie as tie
 
@@ -15,11 +13,8 @@ enum-known-s c = search needs
 put-state-requires : tie.Need-put-state-requires
 put-state-requires c κs = search needs
 
-same-length : tie.Need-same-length
-same-length c = search needs
-
 returns : tie.Need-returns
-returns c = sender-made _ _ _ _ _ _ (c .before .before .before .before .before .before .before .before .if1 .taken) (c .before .before .before .before .before .before .before .start .ensures) (c .before .before .before .before .before .s .given .1) (c .before .before .put-state .ensures)
+returns c = sender-made _ _ _ _ _ _ (c .before .before .before .before .before .start .ensures) (c .before .before .before .s .given .1) (c .put-state .ensures)
 
 enum-known-s-2 : tie.Need-enum-known-s-2
 enum-known-s-2 c = search needs
@@ -28,11 +23,7 @@ refusal-number-requires : tie.Need-refusal-number-requires
 refusal-number-requires c κs = search needs
 
 returns-2 : tie.Need-returns-2
-returns-2 c = sender-denied _ _ _ _ _ _ (c .before .before .before .before .before .if1 .taken) (c .before .before .before .before .start .ensures) (c .before .before .s2 .given .1) (c .refusal-number .ensures)
-
-returns-3 : tie.Need-returns-3
-unfolding started
-returns-3 c = rw (ne-eqb _ _ (c .if1 .left))
+returns-2 c = sender-denied _ _ _ _ _ _ (c .before .before .before .before .start .ensures) (c .before .before .s2 .given .1) (c .refusal-number .ensures)
 
 pub btpu-sender-start-spec : {M : Type 1} → statement M
 btpu-sender-start-spec =
@@ -41,9 +32,7 @@ btpu-sender-start-spec =
     start-requires
     enum-known-s
     put-state-requires
-    same-length
     returns
     enum-known-s-2
     refusal-number-requires
-    returns-2
-    returns-3)
+    returns-2)

@@ -1,5 +1,4 @@
 -- `images::receiving::are_rows` meets its contract. The first k rows are tested.
-
 use native.Mathlib.Omega.{arith}
 use mathlib.Core.Path.{_≡_, refl, _∙_, ap}
 use Prim.Native.Nat.{ℕ, _≤_, _-_}
@@ -25,14 +24,14 @@ mul-at c = omega arith
 add-at : tie.Need-add-at Inv-loop μ-loop
 add-at c = omega arith
 
-shared-slice-read-good : tie.Need-shared-slice-read-good Inv-loop μ-loop
-shared-slice-read-good c = omega arith
+element-copy-out-good : tie.Need-element-copy-out-good Inv-loop μ-loop
+element-copy-out-good c = omega arith
 
 add-good : tie.Need-add-good Inv-loop μ-loop
 add-good c = omega arith
 
-shared-slice-read-good-2 : tie.Need-shared-slice-read-good-2 Inv-loop μ-loop
-shared-slice-read-good-2 c = omega arith
+element-copy-out-good-2 : tie.Need-element-copy-out-good-2 Inv-loop μ-loop
+element-copy-out-good-2 c = omega arith
 
 add-k : tie.Need-add-k Inv-loop μ-loop
 add-k c = omega arith
@@ -55,9 +54,9 @@ are-rows-spec =
     loop-holds
     mul-at
     add-at
-    shared-slice-read-good
+    element-copy-out-good
     add-good
-    shared-slice-read-good-2
+    element-copy-out-good-2
     add-k
     loop-less
     loop-again

@@ -1,4 +1,5 @@
 -- `images::receiving::put_rows` meets its contract. The first k rows are written.
+use borrow.Author.Needs.{needs}
 use native.Mathlib.Omega.{arith}
 use mathlib.Core.Path.{_≡_, refl, sym}
 use Prim.Native.Nat.{_*_, _≤_, _-_}
@@ -6,14 +7,13 @@ use lib.ListN.{length, take}
 use Rattle.octets.specs.Octets.{put}
 use Rattle.octets.proofs.Put.{put-none}
 use Rattle.rows.proofs.Rows.{length-mapped}
-use Rattle.images.specs.Receiver.{imageSize, rowSize, rowsImage}
+use Rattle.images.specs.Receiver.{rowSize, rowsImage}
 use Rattle.images.proofs.Rows.{rows-image-turn, rows-image-end, length-rows-image}
-use borrow.Author.Needs.{needs}
 use Rattle.images.proofs.receiving.put_rows.Statement.{statement}
 use Rattle.images.proofs.receiving.put_rows.Tie as tie
 
 abbrev Inv-loop : tie.InvT-loop
-Inv-loop image₀ rows k₀ image k = (k ≤ 16) × (image ≡ put image₀ 8 (rowsImage (take k rows))) × (length (rowsImage (take k rows)) ≡ k * rowSize) × (length image ≡ imageSize)
+Inv-loop image₀ rows k₀ image k = (k ≤ 16) × (image ≡ put image₀ 8 (rowsImage (take k rows))) × (length (rowsImage (take k rows)) ≡ k * rowSize) × (length image ≡ length image₀)
 
 abbrev μ-loop : tie.MeasureT-loop
 μ-loop image₀ rows k₀ image k = 16 - k
@@ -23,7 +23,7 @@ full c = search (needs, length-mapped)
 
 loop-holds : tie.Need-loop-holds Inv-loop μ-loop
 unfolding rowsImage
-loop-holds c = (omega arith, sym (put-none _ 8), refl, c .before .pre)
+loop-holds c = (omega arith, sym (put-none _ 8), refl, refl)
 
 mul-row : tie.Need-mul-row Inv-loop μ-loop
 mul-row c = omega arith
@@ -47,13 +47,10 @@ loop-less : tie.Need-loop-less Inv-loop μ-loop
 loop-less c = omega arith
 
 loop-again : tie.Need-loop-again Inv-loop μ-loop
-loop-again c = let l = c .before .before .before .before .before .before .loop in let a = c .before .before .before .before .before .before .before .before .args in let t = rows-image-turn _ _ _ (a .t2) 8 (l .k) _ (l .inv .1) (l .inv .2) (c .before .before .put-row .ensures .1) (omega (arith, full (c .before .before .before .before .before .before .before .before))) (omega (arith, c .before .before .before .before .before .before .before .before .pre)) (c .before .before .put-row .ensures .0) in (omega arith, t .0, t .1, search needs)
-
-same-length : tie.Need-same-length Inv-loop μ-loop
-same-length c = omega arith
+loop-again c = let l = c .before .before .before .before .loop in let a = c .before .before .before .before .before .args in let t = rows-image-turn _ _ _ (a .t2) 8 (l .k) _ (l .inv .1) (l .inv .2) (c .put-row .ensures .1) (omega (arith, full (c .before .before .before .before .before))) (omega (arith, l .inv .3, c .before .put-row-arg .given .0 .1)) (c .put-row .ensures .0) in (omega arith, t .0, t .1, search needs)
 
 returns : tie.Need-returns Inv-loop μ-loop
-returns c = let l = c .before .loop in let a = c .before .before .before .args in (rows-image-end _ _ (a .t2) 8 (l .k) (l .inv .1) (omega (arith, full (c .before .before .before))), length-rows-image (a .t2) (l .k) 16 (l .inv .2) (full (c .before .before .before)) (omega arith))
+returns c = let l = c .before .loop in let a = c .before .before .args in (rows-image-end _ _ (a .t2) 8 (l .k) (l .inv .1) (omega (arith, full (c .before .before))), length-rows-image (a .t2) (l .k) 16 (l .inv .2) (full (c .before .before)) (omega arith))
 
 pub put-rows-spec : {M : Type 1} → statement M
 put-rows-spec =
@@ -70,5 +67,4 @@ put-rows-spec =
     add-k
     loop-less
     loop-again
-    same-length
     returns)

@@ -1,4 +1,5 @@
 -- `images::receiving::state_of` meets its contract. The head and the first k rows are read.
+use borrow.Author.Needs.{needs}
 use native.Mathlib.Omega.{arith}
 use mathlib.Core.Path.{_≡_, refl}
 use Prim.Native.Nat.{_≤_, _-_}
@@ -7,7 +8,6 @@ use lib.Dec.{eqb}
 use Rattle.octets.specs.Octets.{number}
 use Rattle.images.specs.Receiver.{rowsOf, stateOf}
 use Rattle.images.proofs.Rows.{rows-turn, rows-end}
-use borrow.Author.Needs.{needs}
 use Rattle.images.proofs.receiving.state_of.Statement.{statement}
 use Rattle.images.proofs.receiving.state_of.Tie as tie
 
@@ -21,8 +21,8 @@ abbrev μ-loop : tie.MeasureT-loop
 empty-row-requires : tie.Need-empty-row-requires Inv-loop μ-loop
 empty-row-requires c κs = search needs
 
-shared-slice-read-t7 : tie.Need-shared-slice-read-t7 Inv-loop μ-loop
-shared-slice-read-t7 c = search needs
+element-copy-out-t8 : tie.Need-element-copy-out-t8 Inv-loop μ-loop
+element-copy-out-t8 c = search needs
 
 number-at-requires : tie.Need-number-at-requires Inv-loop μ-loop
 number-at-requires c κs = search needs
@@ -40,8 +40,8 @@ add-row-of c = omega arith
 row-of-requires : tie.Need-row-of-requires Inv-loop μ-loop
 row-of-requires c κs = omega arith
 
-mul-t15 : tie.Need-mul-t15 Inv-loop μ-loop
-mul-t15 c = omega arith
+mul-t20 : tie.Need-mul-t20 Inv-loop μ-loop
+mul-t20 c = omega arith
 
 element-set-from-state : tie.Need-element-set-from-state Inv-loop μ-loop
 element-set-from-state c = omega arith
@@ -53,7 +53,7 @@ loop-less : tie.Need-loop-less Inv-loop μ-loop
 loop-less c = omega arith
 
 loop-again : tie.Need-loop-again Inv-loop μ-loop
-loop-again c = let l = c .before .before .loop in (omega arith, rows-turn _ _ 8 (l .k) _ (l .inv .1) (omega arith) (c .row-of .ensures), simp length-set (l .inv .2), l .inv .3, l .inv .4)
+loop-again c = let l = c .before .before .before .loop in (omega arith, rows-turn _ _ 8 (l .k) _ (l .inv .1) (omega arith) (c .row-of .ensures), simp length-set (l .inv .2), l .inv .3, l .inv .4)
 
 returns : tie.Need-returns Inv-loop μ-loop
 unfolding stateOf
@@ -66,13 +66,13 @@ state-of-spec =
     Inv-loop
     μ-loop
     empty-row-requires
-    shared-slice-read-t7
+    element-copy-out-t8
     number-at-requires
     loop-holds
     mul-row-of
     add-row-of
     row-of-requires
-    mul-t15
+    mul-t20
     element-set-from-state
     add-k
     loop-less

@@ -1,6 +1,6 @@
 -- `images::sending::put_state` meets its contract.
-use Rattle.images.proofs.Fields.{state-written}
 use borrow.Author.Needs.{needs}
+use Rattle.images.proofs.Fields.{state-written}
 use Rattle.images.proofs.sending.put_state.Statement.{statement}
 use Rattle.images.proofs.sending.put_state.Tie as tie
 
@@ -31,13 +31,10 @@ put-low-requires-4 c κs = search needs
 put-number-requires-3 : tie.Need-put-number-requires-3
 put-number-requires-3 c κs = search needs
 
-same-length : tie.Need-same-length
-same-length c = search needs
-
 returns : tie.Need-returns
 returns c =
-    let s = c .before .before .before .before .before .before .before .before .before .before .before .before .before .before .before .before .before .before .before .before .before .before .before .before .before .before .before .before .before .before .before .before .before .before in
-    state-written _ _ _ _ _ _ _ _ _ (s .args .state) _ (c .before .before .before .before .before .before .before .before .before .before .before .before .before .before .before .before .before .before .before .before .before .before .before .before .before .before .before .before .before .before .before .before .flag .ensures) (s .pre) (c .before .before .before .before .before .before .before .before .before .before .before .before .before .before .before .before .before .before .before .before .before .before .before .before .before .before .before .before .before .before .put-low .ensures) (c .before .before .before .before .before .before .before .before .before .before .before .before .before .before .before .before .before .before .before .before .before .before .before .before .before .before .put-low2 .ensures) (c .before .before .before .before .before .before .before .before .before .before .before .before .before .before .before .before .before .before .before .before .before .before .put-number .ensures) (c .before .before .before .before .before .before .before .before .before .before .before .before .before .before .before .before .before .before .put-four .ensures) (c .before .before .before .before .before .before .before .before .before .before .before .before .before .before .put-number2 .ensures) (c .before .before .before .before .before .before .before .before .before .before .put-low3 .ensures) (c .before .before .before .before .before .before .put-low4 .ensures) (c .before .before .put-number3 .ensures)
+    let s = c .before .before .before .before .before .before .before .before .before .before .before .before .before .before .before .before .before in
+    state-written _ _ _ _ _ _ _ _ _ (s .args .state) _ (c .before .before .before .before .before .before .before .before .before .before .before .before .before .before .before .before .flag .ensures) (c .before .before .before .before .before .before .before .before .before .before .before .before .before .before .before .put-low-arg .given .0 .1) (c .before .before .before .before .before .before .before .before .before .before .before .before .before .before .put-low .ensures) (c .before .before .before .before .before .before .before .before .before .before .before .before .put-low2 .ensures) (c .before .before .before .before .before .before .before .before .before .before .put-number .ensures) (c .before .before .before .before .before .before .before .before .put-four .ensures) (c .before .before .before .before .before .before .put-number2 .ensures) (c .before .before .before .before .put-low3 .ensures) (c .before .before .put-low4 .ensures) (c .put-number3 .ensures)
 
 pub put-state-spec : {M : Type 1} → statement M
 put-state-spec =
@@ -52,5 +49,4 @@ put-state-spec =
     put-low-requires-3
     put-low-requires-4
     put-number-requires-3
-    same-length
     returns)

@@ -1,6 +1,6 @@
 -- `images::sending::state_of` meets its contract.
-use Rattle.images.specs.Sender.{stateOf}
 use borrow.Author.Needs.{needs}
+use Rattle.images.specs.Sender.{stateOf}
 use Rattle.images.proofs.sending.state_of.Statement.{statement}
 use Rattle.images.proofs.sending.state_of.Tie as tie
 
@@ -19,8 +19,8 @@ wide-requires-2 c κs = search needs
 number-at-requires : tie.Need-number-at-requires
 number-at-requires c κs = search needs
 
-shared-slice-read-t8 : tie.Need-shared-slice-read-t8
-shared-slice-read-t8 c = search needs
+element-copy-out-t15 : tie.Need-element-copy-out-t15
+element-copy-out-t15 c = search needs
 
 number-at-requires-2 : tie.Need-number-at-requires-2
 number-at-requires-2 c κs = search needs
@@ -42,7 +42,7 @@ number-at-requires-3 c κs = search needs
 
 returns : tie.Need-returns
 unfolding stateOf
-returns c = rw (c .before .before .before .before .before .before .before .before .before .before .wide .ensures, c .before .before .before .before .before .before .before .before .before .before .before .number16-at .ensures, c .before .before .before .before .before .before .before .before .wide2 .ensures, c .before .before .before .before .before .before .before .before .before .number16-at2 .ensures, c .before .before .before .before .before .before .before .number-at .ensures, c .before .before .before .before .before .number-at2 .ensures, c .before .before .before .wide3 .ensures, c .before .before .before .before .number16-at3 .ensures, c .before .wide4 .ensures, c .before .before .number16-at4 .ensures, c .number-at3 .ensures)
+returns c = rw (c .before .before .before .before .before .before .before .before .before .before .before .before .before .before .before .before .wide .ensures, c .before .before .before .before .before .before .before .before .before .before .before .before .before .before .before .before .before .number16-at .ensures, c .before .before .before .before .before .before .before .before .before .before .before .before .before .wide2 .ensures, c .before .before .before .before .before .before .before .before .before .before .before .before .before .before .number16-at2 .ensures, c .before .before .before .before .before .before .before .before .before .before .before .number-at .ensures, c .before .before .before .before .before .before .before .before .number-at2 .ensures, c .before .before .before .before .before .wide3 .ensures, c .before .before .before .before .before .before .number16-at3 .ensures, c .before .before .wide4 .ensures, c .before .before .before .number16-at4 .ensures, c .number-at3 .ensures)
 
 pub state-of-spec : {M : Type 1} → statement M
 state-of-spec =
@@ -53,7 +53,7 @@ state-of-spec =
     number16-at-requires-2
     wide-requires-2
     number-at-requires
-    shared-slice-read-t8
+    element-copy-out-t15
     number-at-requires-2
     number16-at-requires-3
     wide-requires-3

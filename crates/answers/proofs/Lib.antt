@@ -1,0 +1,3 @@
+-- Laws of the answers.
+--     Codes    a refusal is read off what a call returns
+pub mod Codes

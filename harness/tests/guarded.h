@@ -1,0 +1,345 @@
+/* For guarded.c: memory between guard pages, random numbers, and counts of what calls reached. */
+#ifndef GUARDED_H
+#define GUARDED_H
+
+#include <signal.h>
+#include <stddef.h>
+#include <stdint.h>
+#include <stdio.h>
+#include <stdlib.h>
+#include <string.h>
+#include <sys/mman.h>
+#include <time.h>
+#include <unistd.h>
+
+#include "btpu.h"
+
+#define PAGE 4096
+#define NOISE (64 * PAGE)
+#define NUMBERS 25 /* one more than the greatest number of a refusal */
+
+enum function {
+    RECEIVER_START, RECEIVER_CHECK, RECEIVE, SENDER_START, SENDER_CHECK, PLACE, CANCEL, FLUSH,
+    RECORD, RECORDING_OPEN, PLAY, FUNCTIONS
+};
+
+/* What is lent. A pool of the right length has an area of its own, and stays where it is. */
+enum lent {
+    STATE, POOL, OTHER_POOL, FRAME, OUTPUT, LONG_OUTPUT, BUNDLE, FRAME_BUFFER, SIZES, OCTETS,
+    RECORDING, LENGTHS, PLACES, REASONS, RESULT, AREAS
+};
+
+#define BIT(number) (UINT32_C(1) << (number))
+
+/* The refusals that the header lists, and what comes with a length and so may be NULL. */
+static const struct {
+    const char *name;
+    uint32_t refusals, lengths;
+} functions[FUNCTIONS] = {
+    {"btpu_receiver_start", 0, 0},
+    {"btpu_receiver_check", BIT(1), 0},
+    {"btpu_receive", BIT(1) | BIT(2) | BIT(3) | BIT(4) | BIT(6) | BIT(7) | BIT(8) | BIT(9),
+     BIT(OTHER_POOL) | BIT(FRAME) | BIT(OUTPUT)},
+    {"btpu_sender_start", BIT(14), 0},
+    {"btpu_sender_check", BIT(1), 0},
+    {"btpu_place", BIT(1) | BIT(10) | BIT(11) | BIT(12), BIT(BUNDLE) | BIT(FRAME_BUFFER)},
+    {"btpu_cancel", BIT(1) | BIT(10) | BIT(13), BIT(FRAME_BUFFER)},
+    {"btpu_flush", BIT(1) | BIT(10), BIT(FRAME_BUFFER)},
+    {"btpu_record", BIT(17) | BIT(18) | BIT(19) | BIT(24),
+     BIT(SIZES) | BIT(OCTETS) | BIT(LONG_OUTPUT)},
+    {"btpu_recording_open", BIT(16) | BIT(17) | BIT(18) | BIT(19) | BIT(20), BIT(RECORDING)},
+    {"btpu_play", BIT(2) | BIT(16) | BIT(17) | BIT(18) | BIT(19) | BIT(20) | BIT(24),
+     BIT(RECORDING) | BIT(OTHER_POOL) | BIT(LONG_OUTPUT) | BIT(LENGTHS) | BIT(PLACES) |
+         BIT(REASONS)},
+};
+
+struct area {
+    const char *name;
+    size_t room;     /* octets between the guard pages */
+    uint8_t *start;  /* the first of them */
+    uint8_t *before; /* a copy of them from before the call */
+    uint8_t *at;     /* what is lent: start + from, or NULL */
+    size_t from, length;
+    int is_lent, read_only;
+};
+
+static struct area areas[AREAS] = {
+    {.name = "state", .room = PAGE},
+    {.name = "pool", .room = BTPU_POOL},
+    {.name = "pool of another length", .room = BTPU_POOL + PAGE},
+    {.name = "frame", .room = 2 * PAGE},
+    {.name = "output", .room = 2 * PAGE},
+    {.name = "output", .room = 17 * PAGE},
+    {.name = "bundle", .room = 2 * PAGE},
+    {.name = "frame", .room = PAGE},
+    {.name = "sizes", .room = PAGE},
+    {.name = "octets", .room = 17 * PAGE},
+    {.name = "recording", .room = 17 * PAGE},
+    {.name = "lengths", .room = 8 * PAGE},
+    {.name = "places", .room = 2 * PAGE},
+    {.name = "reasons", .room = 2 * PAGE},
+    {.name = "result", .room = PAGE},
+};
+
+static enum function now; /* the function that is called */
+static uint64_t seed, calls;
+static uint32_t refused_at; /* the place of the last call's refusal */
+static uint64_t reached[FUNCTIONS][NUMBERS]; /* by refusal; entry 0: carried out */
+static uint32_t null_lent[FUNCTIONS];
+static uint8_t noise[NOISE];
+
+static void fail(const char *what, const char *name)
+{
+    fflush(stdout);
+    fprintf(stderr, "seed %llu, call %llu, %s: %s %s\n", (unsigned long long)seed,
+            (unsigned long long)calls, functions[now].name, what, name);
+    _exit(1);
+}
+
+static void expect(int good, const char *what)
+{
+    if (!good)
+        fail(what, "");
+}
+
+static double seconds_now(void)
+{
+    struct timespec time;
+    expect(clock_gettime(CLOCK_MONOTONIC, &time) == 0, "no clock");
+    return (double)time.tv_sec + (double)time.tv_nsec / 1e9;
+}
+
+static size_t number16(const uint8_t *at)
+{
+    return (size_t)at[0] << 8 | at[1];
+}
+
+static void put32(uint8_t *to, uint32_t number)
+{
+    for (int k = 0; k < 4; k++)
+        to[k] = (uint8_t)(number >> (24 - 8 * k));
+}
+
+/* ---- random numbers */
+
+static uint64_t random_state;
+
+static uint64_t draw(void)
+{
+    uint64_t z = (random_state += UINT64_C(0x9e3779b97f4a7c15));
+    z = (z ^ (z >> 30)) * UINT64_C(0xbf58476d1ce4e5b9);
+    z = (z ^ (z >> 27)) * UINT64_C(0x94d049bb133111eb);
+    return z ^ (z >> 31);
+}
+
+static size_t below(size_t bound)
+{
+    return (size_t)(draw() % bound);
+}
+
+static size_t within(size_t low, size_t high)
+{
+    return low + below(high - low + 1);
+}
+
+static int once_in(size_t times)
+{
+    return below(times) == 0;
+}
+
+#define PICK(list) ((list)[below(sizeof(list) / sizeof(list)[0])])
+
+/* Octets of any content, so many at least. */
+static const uint8_t *any_octets(size_t length)
+{
+    return noise + below(NOISE - length + 1);
+}
+
+/* ---- memory */
+
+/* Memory was touched that was not lent, or written to that is to be read only. */
+static void touched(int signal, siginfo_t *info, void *context)
+{
+    (void)signal;
+    (void)context;
+    for (size_t k = 0; k < AREAS; k++) {
+        const uint8_t *at = info->si_addr, *end = areas[k].start + areas[k].room;
+        if (at >= areas[k].start && at < end)
+            fail("write to the read-only", areas[k].name);
+        if (at >= areas[k].start - PAGE && at < end + PAGE)
+            fail(at < areas[k].start ? "access before the" : "access behind the", areas[k].name);
+    }
+    fail("access to memory that was not lent", "");
+}
+
+static void reserve_areas(void)
+{
+    struct sigaction action;
+    memset(&action, 0, sizeof action);
+    action.sa_sigaction = touched;
+    action.sa_flags = SA_SIGINFO;
+    expect(sysconf(_SC_PAGESIZE) == PAGE, "another page size");
+    expect(sigaction(SIGSEGV, &action, NULL) == 0 && sigaction(SIGBUS, &action, NULL) == 0,
+           "no signal handler");
+    for (size_t k = 0; k < AREAS; k++) {
+        struct area *area = &areas[k];
+        uint8_t *pages = mmap(NULL, area->room + 2 * PAGE, PROT_NONE,
+                              MAP_PRIVATE | MAP_ANONYMOUS, -1, 0);
+        expect(pages != MAP_FAILED, "no memory");
+        area->start = pages + PAGE;
+        area->before = calloc(1, area->room);
+        expect(area->before != NULL &&
+                   mprotect(area->start, area->room, PROT_READ | PROT_WRITE) == 0,
+               "no memory");
+    }
+    for (size_t k = 0; k < NOISE; k++)
+        noise[k] = (uint8_t)draw();
+}
+
+/* Lends so many octets, at the start of the area or at its end, with any octets around them. */
+static void lend(enum lent what, const void *content, size_t length)
+{
+    struct area *area = &areas[what];
+    expect(length <= area->room, "too little room");
+    area->length = length;
+    area->from = once_in(2) ? 0 : area->room - length;
+    area->at = length == 0 && once_in(2) ? NULL : area->start + area->from;
+    memcpy(area->before, any_octets(area->room), area->room);
+    if (length != 0)
+        memcpy(area->before + area->from, content, length);
+    memcpy(area->start, area->before, area->room);
+    area->is_lent = 1;
+    area->read_only = 0;
+}
+
+static void lend_read_only(enum lent what, const void *content, size_t length)
+{
+    lend(what, content, length);
+    areas[what].read_only = 1;
+}
+
+static void lend_any(enum lent what, size_t length)
+{
+    lend(what, any_octets(length), length);
+}
+
+/* Lends a pool: the one that is kept or, once in so many times, one of another length. */
+static struct area *lend_pool(size_t wrong_once_in)
+{
+    static const size_t wrong[] = {0, 0, 1, 4096, BTPU_POOL - 1, BTPU_POOL + 1};
+    struct area *pool = &areas[POOL];
+    if (once_in(wrong_once_in)) {
+        lend_any(OTHER_POOL, PICK(wrong));
+        return &areas[OTHER_POOL];
+    }
+    pool->at = pool->start;
+    pool->length = pool->room;
+    pool->is_lent = 1;
+    return pool;
+}
+
+static void expect_same(const struct area *area, size_t from, size_t to)
+{
+    if (memcmp(area->start + from, area->before + from, to - from) != 0)
+        fail("octets changed that must stay: in or around the", area->name);
+}
+
+/* After a call that was carried out: what is lent has stayed from this octet on. */
+static void expect_stays(enum lent what, size_t from)
+{
+    expect(from <= areas[what].length, "more written than was lent");
+    expect_same(&areas[what], areas[what].from + from, areas[what].room);
+}
+
+/* What is lent, as a list of entries of this type. */
+#define LIST(type, what) ((type *)(void *)areas[what].at)
+
+static uint64_t *lend_result(void)
+{
+    lend_any(RESULT, BTPU_RESULT * sizeof(uint64_t));
+    return LIST(uint64_t, RESULT);
+}
+
+static uint64_t result(size_t entry)
+{
+    return LIST(uint64_t, RESULT)[entry];
+}
+
+/* ---- before and after each call */
+
+static void enter(enum function function)
+{
+    now = function;
+    calls++;
+    for (size_t k = 0; k < AREAS; k++)
+        if (areas[k].is_lent && areas[k].read_only)
+            expect(mprotect(areas[k].start, areas[k].room, PROT_READ) == 0, "mprotect");
+}
+
+/* Takes back what was lent; all of it, or all around it, must have stayed. */
+static void take_back(struct area *area, int all_stays)
+{
+    area->is_lent = 0;
+    if (area->read_only)
+        expect(mprotect(area->start, area->room, PROT_READ | PROT_WRITE) == 0, "mprotect");
+    if (all_stays || area->read_only) {
+        expect_same(area, 0, area->room);
+        return;
+    }
+    expect_same(area, 0, area->from);
+    expect_same(area, area->from + area->length, area->room);
+}
+
+/* The number of the refusal that a call returned, or 0. */
+static uint32_t leave(uint32_t returned)
+{
+    uint32_t number = BTPU_REFUSAL(returned);
+    refused_at = BTPU_REFUSAL_PLACE(returned);
+    for (size_t k = 0; k < AREAS; k++) {
+        if (!areas[k].is_lent)
+            continue;
+        if (areas[k].at == NULL)
+            null_lent[now] |= BIT(k);
+        take_back(&areas[k], number != 0);
+    }
+    expect(number == 0 || (number < NUMBERS && (functions[now].refusals & BIT(number)) != 0),
+           "a refusal that the header does not list");
+    if (number >= 4 && number <= 8)
+        expect(refused_at < areas[FRAME].length, "place behind the frame");
+    else
+        expect(refused_at == 0, "place without a bad message");
+    reached[now][number]++;
+    return number;
+}
+
+/* ---- what was reached */
+
+static void expect_reached(void)
+{
+    expect(reached[now][0] != 0, "never carried out");
+    for (uint32_t number = 1; number < NUMBERS; number++)
+        expect((functions[now].refusals & BIT(number)) == 0 || reached[now][number] != 0,
+               "a refusal was not reached");
+    for (size_t k = 0; k < AREAS; k++)
+        if ((functions[now].lengths & ~null_lent[now] & BIT(k)) != 0)
+            fail("NULL was not reached for the", areas[k].name);
+}
+
+/* Prints a line for each function; fails if something was not reached. */
+static void report(void)
+{
+    for (now = RECEIVER_START; now < FUNCTIONS; now++) {
+        uint64_t sum = 0;
+        for (size_t number = 0; number < NUMBERS; number++)
+            sum += reached[now][number];
+        printf("%s: %llu calls; refused", functions[now].name, (unsigned long long)sum);
+        for (uint32_t number = 1; number < NUMBERS; number++)
+            if ((functions[now].refusals & BIT(number)) != 0)
+                printf(" %u: %llu", (unsigned)number, (unsigned long long)reached[now][number]);
+        printf("\n");
+        expect_reached();
+    }
+    printf("%llu calls\n", (unsigned long long)calls);
+}
+
+#endif
