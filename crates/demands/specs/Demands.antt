@@ -1,0 +1,62 @@
+-- Demands 2 and 3 of the exported calls as hosts make them, that these are calls on states, and that no board is ever locked out.
+use mathlib.Core.Path.{_≡_}
+use mathlib.Core.List.{List, List·Memᴰ}
+use Prim.Native.Nat.{ℕ, _-_, _<_, _^_}
+use Rattle.octets.specs.Octets.{Octets}
+use Rattle.window.specs.Window.{windowSize}
+use Rattle.rows.specs.Message as Rows
+use Rattle.rows.specs.Message.{draft02, Handed}
+use Rattle.images.specs.Receiver as Receiver
+use Rattle.images.specs.Sender as Sender
+use Rattle.answers.specs.Receiver.{numberIn}
+use Rattle.board.specs.Receiver.{received, checked as receiverChecked}
+use Rattle.board.specs.Sender.{checked as senderChecked}
+use Rattle.claims.specs.Record.{Record}
+use Rattle.claims.specs.Calls as States
+use Rattle.claims.specs.Calls.{Entry}
+use Rattle.claims.specs.Use as Use
+use Rattle.claims.specs.Use.{Call}
+use Rattle.claims.specs.Demand3.{Claim}
+use Rattle.claims.specs.Demand2.{Arrival}
+use Rattle.demands.specs.Boards as Boards
+use Rattle.demands.specs.Boards.{Board, Fresh, Calls}
+use Rattle.demands.specs.Senders as Senders
+use Rattle.demands.specs.Senders.{Used, Flushed, callOf}
+
+-- ---- Demand 3
+
+-- A fresh board takes frames of the record; es are its whole list.
+pub record Reception (R : Record draft02) (es : List Entry) : Type 0 where
+  pub board : Board
+  pub fresh : Fresh board
+  pub calls : Calls board es
+  pub drawn : (e : Entry) → List·Memᴰ e es → List·Memᴰ (e .frame) (R .frames)
+
+abbrev pub Demand3 : Record draft02 → Type 0
+Demand3 R = Claim R (Reception R) (Reception R) (windowSize - 1)
+
+-- ---- Demand 2
+
+abbrev pub Demand2 : Type 0
+Demand2 = Arrival Flushed Board Fresh Calls
+
+-- ---- a row of exported calls on images is the row of calls on states
+
+abbrev pub onState : Board → Rows.Board
+onState b = record { state = Receiver.stateOf (b .image); pool = b .pool }
+
+pub record SameCalls : Type 0 where
+  pub toStates : (b : Board) → Fresh b → (es : List Entry) → Calls b es → States.Calls draft02 windowSize (onState b) es
+  pub toImages : (b : Board) → Fresh b → (es : List Entry) → ((e : Entry) → List·Memᴰ e es → Octets (e .frame))
+      → States.Calls draft02 windowSize (onState b) es → Calls b es
+  pub usedStates : {p n : ℕ} {image d b : List ℕ} {fs : List (List ℕ)} {bs : List Handed} → n < 2 ^ 32
+      → Used p n image d b fs bs → Use.Used p n (Sender.stateOf image) d b fs bs
+
+-- ---- "The state … stays sound": after start no call is refused with 1, whatever calls came between
+
+pub record NeverLockedOut : Type 0 where
+  pub receiver : (image : List ℕ) → Boards.Reached image → receiverChecked image ≡ 0
+  pub receive : (image : List ℕ) → Boards.Reached image → (pool frame : List ℕ) (place : ℕ) (output result : List ℕ)
+      → numberIn (received image pool frame place output result .status) ≡ 1 → ⊥
+  pub sender : (image : List ℕ) → Senders.Reached image → senderChecked image ≡ 0
+  pub send : (image : List ℕ) → Senders.Reached image → (c : Call) (frame result : List ℕ) → callOf c image frame result .status ≡ 1 → ⊥
