@@ -52,7 +52,7 @@ pub record SameCalls : Type 0 where
   pub usedStates : {p n : ℕ} {image d b : List ℕ} {fs : List (List ℕ)} {bs : List Handed} → n < 2 ^ 32
       → Used p n image d b fs bs → Use.Used p n (Sender.stateOf image) d b fs bs
 
--- ---- "The state … stays sound": after start no call is refused with 1, whatever calls came between
+-- ---- after start no call is refused with 1, whatever calls came between
 
 pub record NeverLockedOut : Type 0 where
   pub receiver : (image : List ℕ) → Boards.Reached image → receiverChecked image ≡ 0
