@@ -1,9 +1,9 @@
 //! Calls made on both sides at once, and what they return and every octet lent compared.
 
 use crate::coverage::{Coverage, FRAME_LENGTHS, FRAME_SIZES, NEVER_GIVEN};
-use crate::ffi::{self, MIN_OUTPUT, NO_NUMBER, POOL, RECEIVER_IMAGE, SENDER_IMAGE};
 use crate::model::interface;
 use crate::random::Random;
+use btpu::raw::{self, MIN_OUTPUT, NO_NUMBER, POOL, RECEIVER_IMAGE, SENDER_IMAGE};
 
 mod recording;
 
@@ -224,7 +224,7 @@ impl ReceiverPair {
         trial.calls += 1;
         trial.coverage.starts += 1;
         let returned = interface::receiver_start(&mut self.image);
-        let exported = ffi::receiver_start(self.exported_image.array());
+        let exported = raw::receiver_start(self.exported_image.array());
         let number = trial.same_returned(returned, exported);
         trial.check(number == 0, "a receiver's start is refused");
         self.same_image(trial);
@@ -237,7 +237,7 @@ impl ReceiverPair {
     fn check(&mut self, trial: &mut Trial) {
         trial.calls += 1;
         let returned = interface::receiver_check(&self.image);
-        let exported = ffi::receiver_check(self.exported_image.array());
+        let exported = raw::receiver_check(self.exported_image.array());
         self.sound = trial.same_returned(returned, exported) == 0;
         trial.check(returned <= 1, "another refusal than 1");
         trial.coverage.checked_receivers[usize::from(!self.sound)] += 1;
@@ -315,7 +315,7 @@ impl ReceiverPair {
                     &mut result,
                     trial.coverage,
                 ),
-                ffi::receive(
+                raw::receive(
                     self.exported_image.array(),
                     self.exported_pool.lend(),
                     self.exported_frame.get(),
@@ -336,7 +336,7 @@ impl ReceiverPair {
                     &mut result,
                     trial.coverage,
                 );
-                let exported = ffi::receive(
+                let exported = raw::receive(
                     self.exported_image.array(),
                     exported_other.lend(),
                     self.exported_frame.get(),
@@ -510,7 +510,7 @@ impl SenderPair {
         }
         let before = self.image;
         let returned = interface::sender_start(&mut self.image, frame_size, first_number);
-        let exported = ffi::sender_start(self.exported_image.array(), frame_size, first_number);
+        let exported = raw::sender_start(self.exported_image.array(), frame_size, first_number);
         let number = trial.same_returned(returned, exported);
         self.same_image(trial);
         if number != 0 {
@@ -526,7 +526,7 @@ impl SenderPair {
     fn check(&mut self, trial: &mut Trial) {
         trial.calls += 1;
         let returned = interface::sender_check(&self.image);
-        let exported = ffi::sender_check(self.exported_image.array());
+        let exported = raw::sender_check(self.exported_image.array());
         self.sound = trial.same_returned(returned, exported) == 0;
         trial.check(returned <= 1, "another refusal than 1");
         trial.coverage.checked_senders[usize::from(!self.sound)] += 1;
@@ -592,7 +592,7 @@ impl SenderPair {
             Send::Place(bundle) => {
                 let exported_bundle = Lent::new(bundle);
                 let returned = interface::place(image, bundle, frame, &mut result);
-                let exported = ffi::place(
+                let exported = raw::place(
                     exported_image,
                     exported_bundle.get(),
                     lent.lend(),
@@ -603,11 +603,11 @@ impl SenderPair {
             }
             Send::Cancel => (
                 interface::cancel(image, frame, &mut result),
-                ffi::cancel(exported_image, lent.lend(), &mut exported_result),
+                raw::cancel(exported_image, lent.lend(), &mut exported_result),
             ),
             Send::Flush => (
                 interface::flush(image, frame, &mut result),
-                ffi::flush(exported_image, lent.lend(), &mut exported_result),
+                raw::flush(exported_image, lent.lend(), &mut exported_result),
             ),
         };
         let number = trial.same_answer((returned, result), (exported, exported_result));

@@ -1,10 +1,10 @@
 //! Messages, frames and states, good and damaged.
 
 use crate::coverage::EDGES;
-use crate::ffi::{RECEIVER_IMAGE, SENDER_IMAGE};
 use crate::model::receiver::{distance, Distance};
 use crate::model::wire;
 use crate::random::Random;
+use btpu::raw::{RECEIVER_IMAGE, SENDER_IMAGE};
 
 mod recordings;
 

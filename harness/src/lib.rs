@@ -3,7 +3,6 @@
 
 pub mod compare;
 pub mod coverage;
-pub mod ffi;
 pub mod generate;
 pub mod json;
 pub mod model;

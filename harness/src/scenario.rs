@@ -2,10 +2,10 @@
 
 use crate::compare::{Lending, Received, ReceiverPair, Send, SenderPair, Sent, Trial};
 use crate::coverage::{Coverage, FRAME_LENGTHS};
-use crate::ffi::{POOL, RECEIVER_IMAGE};
 use crate::generate::{self, OpenRow, SenderEntries, BUNDLE, RECEIVER_DAMAGE, ROWS, SENDER_DAMAGE};
 use crate::model::receiver::CELL;
 use crate::random::Random;
+use btpu::raw::{POOL, RECEIVER_IMAGE};
 
 pub mod recordings;
 

@@ -1,7 +1,7 @@
 //! One interface for the two sides that are compared.
 
-use crate::ffi::{self, RECEIVER_IMAGE, RECORDED_FRAMES, SENDER_IMAGE};
 use crate::model::interface;
+use btpu::raw::{self, RECEIVER_IMAGE, RECORDED_FRAMES, SENDER_IMAGE};
 
 pub trait Side {
     const NAME: &'static str;
@@ -119,11 +119,11 @@ impl Side for Exported {
     const NAME: &'static str = "exported";
 
     fn receiver_start(state: &mut [u8; RECEIVER_IMAGE]) -> u32 {
-        ffi::receiver_start(state)
+        raw::receiver_start(state)
     }
 
     fn receiver_check(state: &[u8; RECEIVER_IMAGE]) -> u32 {
-        ffi::receiver_check(state)
+        raw::receiver_check(state)
     }
 
     fn receive(
@@ -134,15 +134,15 @@ impl Side for Exported {
         output: &mut [u8],
         result: &mut [u64; 4],
     ) -> u32 {
-        ffi::receive(state, pool, frame, place, output, result)
+        raw::receive(state, pool, frame, place, output, result)
     }
 
     fn sender_start(state: &mut [u8; SENDER_IMAGE], frame_size: u64, first_number: u32) -> u32 {
-        ffi::sender_start(state, frame_size, first_number)
+        raw::sender_start(state, frame_size, first_number)
     }
 
     fn sender_check(state: &[u8; SENDER_IMAGE]) -> u32 {
-        ffi::sender_check(state)
+        raw::sender_check(state)
     }
 
     fn place(
@@ -151,19 +151,19 @@ impl Side for Exported {
         frame: &mut [u8],
         result: &mut [u64; 4],
     ) -> u32 {
-        ffi::place(state, bundle, frame, result)
+        raw::place(state, bundle, frame, result)
     }
 
     fn cancel(state: &mut [u8; SENDER_IMAGE], frame: &mut [u8], result: &mut [u64; 4]) -> u32 {
-        ffi::cancel(state, frame, result)
+        raw::cancel(state, frame, result)
     }
 
     fn flush(state: &mut [u8; SENDER_IMAGE], frame: &mut [u8], result: &mut [u64; 4]) -> u32 {
-        ffi::flush(state, frame, result)
+        raw::flush(state, frame, result)
     }
 
     fn record(sizes: &[u16], octets: &[u8], output: &mut [u8], result: &mut [u64; 4]) -> u32 {
-        ffi::record(sizes, octets, output, result)
+        raw::record(sizes, octets, output, result)
     }
 
     fn recording_open(
@@ -171,7 +171,7 @@ impl Side for Exported {
         sizes: &mut [u16; RECORDED_FRAMES],
         result: &mut [u64; 4],
     ) -> u32 {
-        ffi::recording_open(recording, sizes, result)
+        raw::recording_open(recording, sizes, result)
     }
 
     fn play(
@@ -182,6 +182,6 @@ impl Side for Exported {
         notes: (&mut [u32], &mut [u32]),
         result: &mut [u64; 4],
     ) -> u32 {
-        ffi::play(recording, limit, pool, bundles, notes, result)
+        raw::play(recording, limit, pool, bundles, notes, result)
     }
 }

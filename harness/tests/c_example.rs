@@ -37,7 +37,7 @@ fn run(source: &str, name: &str, arguments: &[&str]) -> String {
 #[test]
 fn sends_and_receives() {
     assert_eq!(
-        run("examples/c/send_receive.c", "send_receive", &[]),
+        run("hosts/c/send_receive.c", "send_receive", &[]),
         "bundle of 3000 octets received through 6 frames of 512 octets\n"
     );
 }

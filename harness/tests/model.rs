@@ -1,6 +1,6 @@
 //! The model by itself: the window table at its edges, and images there and back.
 
-use harness::ffi::{RECEIVER_IMAGE, SENDER_IMAGE};
+use btpu::raw::{RECEIVER_IMAGE, SENDER_IMAGE};
 use harness::generate::{self, SenderEntries};
 use harness::model::receiver::{distance, Distance, State};
 use harness::model::sender;

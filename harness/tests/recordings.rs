@@ -1,6 +1,6 @@
 //! Recordings by hand-made examples, on both sides.
 
-use harness::ffi::{PLAYED_BUNDLES, POOL, RECORDED_FRAMES, RECORDED_OCTETS};
+use btpu::raw::{PLAYED_BUNDLES, POOL, RECORDED_FRAMES, RECORDED_OCTETS};
 use harness::side::{Exported, Model, Side};
 
 /// The sizes, the count of octets and where they start, or the refusal.

@@ -1,6 +1,6 @@
 //! The test vectors of `vectors/`, against the model and against the exported interface.
 
-use harness::ffi::{NO_NUMBER, RECEIVER_IMAGE, SENDER_IMAGE};
+use btpu::raw::{NO_NUMBER, RECEIVER_IMAGE, SENDER_IMAGE};
 use harness::json::Json;
 use harness::sha256::sha256;
 use harness::side::{Exported, Model, Side};

@@ -1,5 +1,4 @@
 -- Writing at an offset: `put` of specs/Octets.antt.
---     put-two        two stores are a put
 --     put-paste      a finished copy is a put
 --     length-put     a put within a list keeps its length
 --     put-none       a put of nothing
@@ -13,17 +12,13 @@
 use mathlib.Core.Path.{_≡_, refl, sym, ap, _∙_}
 use mathlib.Core.List.{List, [], _∷_, _++_, append-assoc, append-nil}
 use Prim.Native.Nat.{ℕ, zero, suc, _+_, _-_, _≤_, _<_}
-use native.Mathlib.Numerals.{towards-suc, add-one}
+use native.Mathlib.Numerals.{add-one}
 use native.Mathlib.Nat.{add-assoc, add-zero, zero-add}
 use native.Mathlib.Omega.{arith}
 use lib.ListN.{length, take, drop, set, getD, length-append, length-take, length-drop, take-append-drop}
-use lib.Seq.{set-split, drop-cons, append-snoc, set-append-seam, take-all, take-add, sets-eq, paste, paste-suc, take-length, drop-length, length-take-le, take-at, drop-at, drop-drop}
+use lib.Seq.{set-split, drop-cons, append-snoc, set-append-seam, take-all, take-add, paste, paste-suc, take-length, drop-length, length-take-le, take-at, drop-at, drop-drop}
 use Rattle.octets.specs.Octets.{Octets, put}
 use Rattle.octets.proofs.Numbers.{octets-drop, octets-take, octets-append}
-
-pub put-two : (l : List ℕ) (at a b : ℕ) → at + 2 ≤ length l → set (set l at a) (at + 1) b ≡ put l at (a ∷ b ∷ [])
-unfolding put
-put-two l at a b h = simp towards-suc (simp towards-suc at (sets-eq (a ∷ b ∷ []) l at h))
 
 pub put-paste : (d : List ℕ) (at : ℕ) (s : List ℕ) → paste d at s (length s) ≡ put d at s
 unfolding put

@@ -8,7 +8,7 @@
 use std::hint::black_box;
 use std::time::Instant;
 
-use harness::ffi::{
+use btpu::raw::{
     self, MIN_OUTPUT, PLAYED_BUNDLES, POOL, RECEIVER_IMAGE, RECORDED_FRAMES, RECORDED_OCTETS,
     SENDER_IMAGE,
 };
@@ -220,7 +220,7 @@ impl Reception {
     /// By a fresh board, each frame to its end.
     fn of(frames: Vec<Vec<u8>>) -> Reception {
         let mut image = [0; RECEIVER_IMAGE];
-        assert_eq!(ffi::receiver_start(&mut image), 0);
+        assert_eq!(raw::receiver_start(&mut image), 0);
         Reception {
             image,
             pool: vec![0; POOL],
@@ -243,7 +243,7 @@ fn join(random: &mut Random, order: Vec<u32>) -> Reception {
     let mut output = vec![0; MIN_OUTPUT];
     for frame in frames {
         let mut result = [1; 4];
-        let returned = ffi::receive(
+        let returned = raw::receive(
             &mut held.image,
             &mut held.pool,
             &frame,
@@ -342,7 +342,7 @@ fn receiving<'a>(name: &'static str, reception: &'a Reception) -> Workload<'a> {
     };
     Workload {
         name,
-        exported: Box::new(through_image(ffi::receive)),
+        exported: Box::new(through_image(raw::receive)),
         own_state: Box::new(own_state),
         image: Box::new(through_image(
             |image, pool, frame, place, output, result| {
@@ -399,7 +399,7 @@ fn sending<'a>(name: &'static str, frame_size: u64, bundles: &'a [Vec<u8>]) -> W
     };
     Workload {
         name,
-        exported: Box::new(through_image(ffi::sender_start, ffi::place)),
+        exported: Box::new(through_image(raw::sender_start, raw::place)),
         own_state: Box::new(own_state),
         image: Box::new(through_image(interface::sender_start, interface::place)),
     }
@@ -421,7 +421,7 @@ fn recording<'a>(name: &'static str, frames: &[Vec<u8>]) -> RecordingWorkload<'a
     };
     RecordingWorkload {
         name,
-        exported: Box::new(side(ffi::record)),
+        exported: Box::new(side(raw::record)),
         model: Box::new(side(interface::record)),
     }
 }
@@ -442,7 +442,7 @@ fn opening<'a>(name: &'static str, frames: &[Vec<u8>]) -> RecordingWorkload<'a> 
     };
     RecordingWorkload {
         name,
-        exported: Box::new(side(ffi::recording_open)),
+        exported: Box::new(side(raw::recording_open)),
         model: Box::new(side(interface::recording_open)),
     }
 }
@@ -471,7 +471,7 @@ fn playing<'a>(name: &'static str, frames: &[Vec<u8>]) -> RecordingWorkload<'a> 
     };
     RecordingWorkload {
         name,
-        exported: Box::new(side(ffi::play)),
+        exported: Box::new(side(raw::play)),
         model: Box::new(side(|recording, limit, pool, bundles, notes, result| {
             interface::play(recording, limit, pool, bundles, notes, result, &mut ())
         })),

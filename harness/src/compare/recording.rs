@@ -1,9 +1,9 @@
 //! Recordings written, opened and played on both sides at once.
 
 use super::{Lent, Trial};
-use crate::ffi::{self, PLAYED_BUNDLES, POOL, RECORDED_FRAMES, RECORDED_OCTETS};
 use crate::model::interface;
 use crate::random::Random;
+use btpu::raw::{self, PLAYED_BUNDLES, POOL, RECORDED_FRAMES, RECORDED_OCTETS};
 
 /// A list lent to both sides, and what it held before.
 struct Both<T> {
@@ -135,7 +135,7 @@ impl Playing {
     }
 
     fn exported(&mut self, limit: u64, result: &mut [u64; 4]) -> u32 {
-        ffi::play(
+        raw::play(
             self.recording.get(),
             limit,
             self.pool.exported.lend(),
@@ -185,7 +185,7 @@ impl Trial<'_> {
         let lent_octets = Lent::new(octets);
         let (mut result, mut exported_result) = (lent, lent);
         let returned = interface::record(sizes, octets, &mut output.model, &mut result);
-        let exported = ffi::record(
+        let exported = raw::record(
             lent_sizes.get(),
             lent_octets.get(),
             output.exported.lend(),
@@ -221,7 +221,7 @@ impl Trial<'_> {
         let model = sizes.model.as_mut_slice().try_into();
         let model: &mut [u16; RECORDED_FRAMES] = model.expect("as many as frames at most");
         let returned = interface::recording_open(recording, model, &mut result);
-        let exported = ffi::recording_open(
+        let exported = raw::recording_open(
             lent_recording.get(),
             sizes.exported.array(),
             &mut exported_result,

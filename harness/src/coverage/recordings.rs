@@ -1,9 +1,9 @@
 //! Counts of the cases that calls for recordings have reached.
 
 use crate::compare::Played;
-use crate::ffi::{PLAYED_BUNDLES, RECORDED_FRAMES, RECORDED_OCTETS};
 use crate::generate::message_count;
 use crate::model::recording::Recording;
+use btpu::raw::{PLAYED_BUNDLES, RECORDED_FRAMES, RECORDED_OCTETS};
 
 const RECORD_REFUSED: [&str; 7] = [
     "17 frames",

@@ -5,10 +5,10 @@ use super::{
     hostile_frame, hostile_message, message, pack, piece, random_frame, with_reserved_bits, BUNDLE,
     MAX_FRAME,
 };
-use crate::ffi::{RECORDED_FRAMES, RECORDED_OCTETS};
 use crate::model::sender::{Answer, State};
 use crate::model::wire;
 use crate::random::Random;
+use btpu::raw::{RECORDED_FRAMES, RECORDED_OCTETS};
 
 /// The number of messages of a frame, or nothing if it is malformed.
 pub fn message_count(frame: &[u8]) -> Option<u64> {

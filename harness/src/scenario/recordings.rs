@@ -1,8 +1,8 @@
 //! Scenarios of recordings: written, damaged, played.
 
 use crate::compare::{Lending, PlayMemory, Played, Received, ReceiverPair, Trial};
-use crate::ffi::POOL;
 use crate::generate::{self, ROWS, UNRECORDABLE};
+use btpu::raw::POOL;
 
 /// Recordings as full as they can be cost time, so they are tried once in so many runs.
 const FULL_ONCE_IN: usize = 4;

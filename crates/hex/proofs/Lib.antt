@@ -1,2 +1,0 @@
--- What the proof of `encode` uses.
-pub mod Turns

@@ -1,0 +1,85 @@
+//! Bundle transfer over frames, for the host of a board: a [`Sender`], a [`Receiver`] and [`Recording`]s.
+//!
+//! A *bundle* is a packet of 1 to 4,096 octets that one side has and the other side wants. A *frame* is
+//! one unit of the link, of 1 to 2,048 octets. The link has one direction: there are no acknowledgements,
+//! and frames may be lost, repeated or come in another order. A sender cuts bundles into pieces and fills
+//! frames of a fixed size with them; a receiver takes the frames that arrive and hands out each bundle
+//! when all its pieces are there. Where the loss of a frame matters, send frames more than once: a bundle
+//! in pieces is still handed out once, one that is sent whole each time it comes.
+//!
+//! ```
+//! use btpu::{Receiver, Sender};
+//!
+//! let bundle = vec![0x55; 3000];
+//!
+//! // Frames of 512 octets; the first transfer has the number 7.
+//! let mut sender = Sender::new(512, 7)?;
+//! let mut frames = Vec::new();
+//! sender.send(&bundle, |frame| frames.push(frame.to_vec()))?;
+//! sender.finish(|frame| frames.push(frame.to_vec()))?;
+//! assert_eq!(frames.len(), 6);
+//!
+//! let mut receiver = Receiver::new();
+//! let mut received = Vec::new();
+//! for frame in frames.iter().rev() {
+//!     received.extend(receiver.receive(frame)?);
+//! }
+//! assert_eq!(received.len(), 1);
+//! assert_eq!(received[0].number, Some(7));
+//! assert_eq!(received[0].octets, bundle);
+//! # Ok::<(), btpu::Refusal>(())
+//! ```
+//!
+//! # Refusals
+//!
+//! A call that cannot be carried out is refused with a [`Refusal`]: it changes nothing, and the receiver
+//! or sender goes on as if it had not been made. A frame that is damaged in transit is refused as a whole
+//! if its messages cannot be read; damage to the octets of a bundle is not noticed, so that bundles carry
+//! their own check or the link drops damaged frames.
+//!
+//! # Transfer numbers
+//!
+//! A bundle sent in pieces is a *transfer*, with a number. A sender counts them up, from the first number
+//! that it is given, and goes on with 0 after 4,294,967,295. A receiver keeps the 16 transfers up to the
+//! greatest number it has seen, its *window*; pieces of older ones are passed over, and the room of a
+//! transfer that falls out of the window unfinished is used anew. A number must therefore not be used
+//! again within the window: not by a sender after a restart, nor by two senders on one link. A bundle that
+//! has room in one frame is sent whole, and takes no number.
+//!
+//! # Restarts
+//!
+//! Receiver and sender live in memory alone. [`Receiver::save`] and [`Sender::save`] give octets to be
+//! stored, from which `restore` makes the same receiver or sender again, also in the middle of a transfer.
+//! Without them a restart loses
+//!
+//! - of a receiver: the pieces of unfinished transfers, and which bundles were handed out, so that one may
+//!   be handed out again when its frames are repeated;
+//! - of a sender: the frame that is being filled, how far the transfer begun is, and the next transfer
+//!   number, which has to be chosen anew.
+//!
+//! The bundle being sent belongs to the caller and is in no save.
+//!
+//! # The library
+//!
+//! All calls go to a static library, libboard.a, through the C interface `include/btpu.h`; [`raw`] has its
+//! functions. The build takes it from `target/staticlib` of the repository, where `rt staticlib board`
+//! puts it, or libbtpu.a from the directory named by the environment variable `BTPU_LIB_DIR`. A call
+//! takes up to 64 KiB of the stack, [`Recording::play`] up to 128 KiB.
+
+#![deny(missing_docs)]
+#![deny(unsafe_code)]
+#![forbid(unsafe_op_in_unsafe_fn)]
+
+#[allow(unsafe_code)]
+pub mod raw;
+mod receiver;
+mod recording;
+mod refusal;
+mod sender;
+mod window;
+
+pub use receiver::{Bundle, Bundles, Receiver};
+pub use recording::{Playback, Recording, RefusedFrame};
+pub use refusal::{Refusal, RestoreError};
+pub use sender::{Sender, Sent};
+pub use window::{Phase, Piece, Row, Window};

@@ -1,0 +1,122 @@
+//! What include/btpu.h declares, against the crate.
+
+use std::fs;
+use std::path::Path;
+
+use btpu::{raw, Refusal};
+
+fn header() -> String {
+    let path = Path::new(env!("CARGO_MANIFEST_DIR")).join("../../include/btpu.h");
+    fs::read_to_string(path).expect("include/btpu.h can be read")
+}
+
+/// Name behind `BTPU_` and what follows it, for each number defined.
+fn definitions(text: &str) -> Vec<(&str, &str)> {
+    let definitions = text.lines().filter_map(|line| {
+        let (name, rest) = line.strip_prefix("#define BTPU_")?.split_once(' ')?;
+        (!name.contains('(')).then_some((name, rest.trim()))
+    });
+    definitions.collect()
+}
+
+/// FRAME_LENGTH is FrameLength.
+fn camel_case(name: &str) -> String {
+    let word = |word: &str| word[..1].to_string() + &word[1..].to_lowercase();
+    name.split('_').map(word).collect()
+}
+
+#[test]
+fn every_refusal_has_its_number() {
+    let text = header();
+    let mut numbers = Vec::new();
+    for (name, rest) in definitions(&text) {
+        let Some(name) = name.strip_prefix("REFUSED_") else {
+            continue;
+        };
+        let number = rest.split(' ').next().unwrap().parse().unwrap();
+        let refusal = Refusal::from_number(number, 300).expect(name);
+        assert_eq!(refusal.number(), number, "{name}");
+        let shown = format!("{refusal:?}");
+        assert_eq!(shown.split(' ').next(), Some(&camel_case(name)[..]));
+        numbers.push(number);
+    }
+    assert_eq!(numbers.len(), 20);
+    for number in 0..256 {
+        let known = Refusal::from_number(number, 0).is_some();
+        assert_eq!(known, numbers.contains(&number), "{number}");
+    }
+}
+
+/// The words of a refusal stand in the comment behind its number.
+#[test]
+fn every_refusal_has_the_words_of_its_comment() {
+    let text = header();
+    let flat = text.split_whitespace().collect::<Vec<_>>().join(" ");
+    for number in 1..256 {
+        let Some(refusal) = Refusal::from_number(number, 0) else {
+            continue;
+        };
+        let behind = flat
+            .split("#define BTPU_REFUSED_")
+            .skip(1)
+            .find(|part| part.split(' ').nth(1) == Some(&number.to_string()))
+            .expect("a definition");
+        let comment = behind.split("*/").next().unwrap();
+        let words = refusal.words();
+        assert!(!words.is_empty());
+        assert!(comment.contains(words), "{number}: {words}: {comment}");
+    }
+}
+
+#[test]
+fn refusals_are_shown() {
+    let placed = Refusal::from_returned(6 + 256 * 12).unwrap_err();
+    assert_eq!(
+        placed.to_string(),
+        "refusal 6 at octet 12: a length runs past the frame"
+    );
+    let without = Refusal::from_returned(3).unwrap_err();
+    assert_eq!(
+        without.to_string(),
+        "refusal 3: frame of 0 or more than 2,048 octets"
+    );
+    for number in 1..=24 {
+        if let Some(refusal) = Refusal::from_number(number, 300) {
+            let place = (4..=8).contains(&number).then_some(300);
+            assert_eq!(refusal.place(), place, "{number}");
+            let returned = number + 256 * place.unwrap_or(0);
+            assert_eq!(Refusal::from_returned(returned), Err(refusal));
+        }
+    }
+}
+
+#[test]
+#[should_panic(expected = "15 is the number of no refusal")]
+fn other_numbers_are_none() {
+    let _ = Refusal::from_returned(15);
+}
+
+#[test]
+fn sizes_are_those_of_the_header() {
+    let text = header();
+    let definitions = definitions(&text);
+    let sizes = [
+        ("RECEIVER_IMAGE", raw::RECEIVER_IMAGE),
+        ("SENDER_IMAGE", raw::SENDER_IMAGE),
+        ("POOL", raw::POOL),
+        ("MIN_OUTPUT", raw::MIN_OUTPUT),
+        ("MAX_BUNDLE", raw::MAX_BUNDLE),
+        ("MAX_FRAME", raw::MAX_FRAME),
+        ("MIN_FRAME_SIZE", raw::MIN_FRAME_SIZE),
+        ("MAX_FRAME_SIZE", raw::MAX_FRAME_SIZE),
+        ("MAX_RECORDING", raw::MAX_RECORDING),
+        ("RECORDED_FRAMES", raw::RECORDED_FRAMES),
+        ("RECORDED_OCTETS", raw::RECORDED_OCTETS),
+        ("PLAYED_BUNDLES", raw::PLAYED_BUNDLES),
+    ];
+    for (name, size) in sizes {
+        let found = definitions.iter().find(|(defined, _)| *defined == name);
+        assert_eq!(found.expect(name).1, size.to_string(), "{name}");
+    }
+    assert!(definitions.contains(&("NO_NUMBER", &format!("UINT64_C({})", raw::NO_NUMBER))));
+}

@@ -1,0 +1,105 @@
+//! The window that is shown, against a known sequence of messages.
+
+use btpu::{Phase, Piece, Receiver, Row};
+
+const SEGMENT: u8 = 3;
+const END: u8 = 4;
+
+/// A frame with one piece.
+fn piece(kind: u8, number: u32, index: u32, data: &[u8]) -> Vec<u8> {
+    let length = (8 + data.len()) as u16;
+    let header = [&[kind, 0][..], &length.to_be_bytes()].concat();
+    let place = [number.to_be_bytes(), index.to_be_bytes()].concat();
+    [&header, &place, data].concat()
+}
+
+fn cancel(number: u32) -> Vec<u8> {
+    [&[5, 0, 0, 4], &number.to_be_bytes()[..]].concat()
+}
+
+fn row(number: u32, phase: Phase) -> Row {
+    Row {
+        number: Some(number),
+        phase,
+        last: None,
+        pieces: Vec::new(),
+    }
+}
+
+#[test]
+fn fresh() {
+    let window = Receiver::new().window();
+    assert_eq!(window.greatest, None);
+    for row in window.rows {
+        assert_eq!((row.number, row.phase), (None, Phase::Free));
+        assert_eq!((row.last, row.pieces), (None, vec![]));
+    }
+}
+
+#[test]
+fn every_phase() {
+    let mut receiver = Receiver::new();
+    let frames = [
+        piece(SEGMENT, 5, 1, b"abc"),
+        piece(SEGMENT, 5, 0, &[7; 300]),
+        piece(END, 6, 2, b""),
+        piece(SEGMENT, 6, 0, b"d"),
+        cancel(3),
+        piece(SEGMENT, 7, 64, b"e"),
+        piece(END, 4, 0, b"f"),
+    ];
+    let bundles: Vec<_> = frames
+        .iter()
+        .flat_map(|frame| receiver.receive(frame).unwrap())
+        .collect();
+    assert_eq!(bundles.len(), 1);
+    let window = receiver.window();
+    assert_eq!(window.greatest, Some(7));
+    let held = |index, length| Piece { index, length };
+    let mut open = row(5, Phase::Open);
+    open.pieces = vec![held(1, 3), held(0, 300)];
+    assert_eq!(window.rows[5], open);
+    let mut open = row(6, Phase::Open);
+    open.last = Some(2);
+    open.pieces = vec![held(2, 0), held(0, 1)];
+    assert_eq!(window.rows[6], open);
+    assert_eq!(window.rows[3], row(3, Phase::Cancelled));
+    assert_eq!(window.rows[7], row(7, Phase::GivenUp));
+    assert_eq!(window.rows[4], row(4, Phase::Done));
+    assert_eq!(window.rows[0], row(0, Phase::Free));
+    assert_eq!(window.rows[8], row(u32::MAX - 7, Phase::Free));
+    assert_eq!(receiver.pool()[5 * 4096..][..4], *b"abc\x07");
+}
+
+/// The window moves on over the greatest number, and rows that fall out of it are free again.
+#[test]
+fn moves_on() {
+    let mut receiver = Receiver::new();
+    let before_zero = u32::MAX - 5;
+    for frame in [
+        piece(SEGMENT, before_zero, 0, b"a"),
+        piece(END, 3, 0, b"b"),
+        piece(SEGMENT, 3, 0, b"passed over"),
+    ] {
+        receiver.receive(&frame).unwrap();
+    }
+    let window = receiver.window();
+    assert_eq!(window.greatest, Some(3));
+    assert_eq!(window.rows[10].number, Some(before_zero));
+    assert_eq!(window.rows[10].phase, Phase::Open);
+    assert_eq!(window.rows[3], row(3, Phase::Done));
+    for (place, row) in window.rows.iter().enumerate() {
+        let number = row.number.unwrap();
+        assert_eq!(number as usize % 16, place);
+        assert!(3u32.wrapping_sub(number) < 16);
+    }
+
+    receiver.receive(&piece(SEGMENT, 10, 0, b"c")).unwrap();
+    let window = receiver.window();
+    assert_eq!(window.rows[10].number, Some(10));
+    assert_eq!(window.rows[10].pieces.len(), 1);
+    receiver.receive(&cancel(26)).unwrap();
+    let window = receiver.window();
+    assert_eq!(window.rows[10], row(26, Phase::Cancelled));
+    assert_eq!(window.rows[3], row(19, Phase::Free));
+}
