@@ -1,6 +1,7 @@
 //! Tests of the exported library: an independent model of document 01, the test vectors,
 //! generated input and measurements of speed.
 
+pub mod baseline;
 pub mod compare;
 pub mod coverage;
 pub mod generate;

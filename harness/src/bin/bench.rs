@@ -1,4 +1,4 @@
-//! Time per call of the exported interface and of the model, on the same input.
+//! Time per call of the exported interface, of the model and of the baselines, on the same input.
 //!
 //!     bench [ROUNDS]
 //!
@@ -12,6 +12,7 @@ use btpu::raw::{
     self, MIN_OUTPUT, PLAYED_BUNDLES, POOL, RECEIVER_IMAGE, RECORDED_FRAMES, RECORDED_OCTETS,
     SENDER_IMAGE,
 };
+use harness::baseline::{inplace, natural};
 use harness::generate::{self, BUNDLE};
 use harness::model::{interface, receiver, sender};
 use harness::random::Random;
@@ -41,12 +42,20 @@ impl Work {
 /// Does the work of one side once.
 type Side<'a> = Box<dyn FnMut() -> Work + 'a>;
 
-/// A workload of three sides: exported, the model on its own state, the model behind an image.
+/// A workload of three sides: exported, the model on its own state, the model behind an image; and of the
+/// baselines, for receiving calls.
 struct Workload<'a> {
     name: &'static str,
     exported: Side<'a>,
     own_state: Side<'a>,
     image: Side<'a>,
+    baselines: Option<Baselines<'a>>,
+}
+
+/// In place on the image, and natural on its own state.
+struct Baselines<'a> {
+    inplace: Side<'a>,
+    natural: Side<'a>,
 }
 
 /// A workload of calls that have no state: exported, and the model.
@@ -72,6 +81,10 @@ fn main() {
         image: full,
         ..Reception::of(vec![vec![0]; 32])
     };
+    let idle = Reception {
+        image: done_image(),
+        ..Reception::of(vec![vec![0]; 32])
+    };
     let rising = join(&mut random, (0..64).collect());
     let falling = join(&mut random, (0..64).rev().collect());
     let mut shuffled: Vec<u32> = (0..64).collect();
@@ -94,6 +107,7 @@ fn main() {
             "receive: one zero octet, all rows with 63 pieces",
             &full_octet,
         ),
+        receiving("idle call: one zero octet, all rows Done", &idle),
         receiving("join: 64 pieces of 64 octets, in order", &rising),
         receiving("join: 64 pieces of 64 octets, in falling order", &falling),
         receiving("join: 64 pieces of 64 octets, in random order", &shuffled),
@@ -102,13 +116,17 @@ fn main() {
         sending("place: 60 octets, frames of 2,048", 2048, &small),
         sending("place: 8 octets, frames of 128", 128, &tiny),
     ];
-    println!("{rounds} rounds; exported interface against the model in Rust (\"Rust\")");
+    println!(
+        "{rounds} rounds; exported interface against the model in Rust (\"Rust\"), a receiver in place \
+         on the image, and a natural one on its own state"
+    );
     println!();
     println!(
         "| workload | calls | exported, ns/call | Rust, own state, ns/call | Rust, image, ns/call \
-         | ratio to own state | ratio to image |"
+         | ratio to own state | ratio to image | in place, ns/call | natural, ns/call \
+         | ratio to in place | ratio to natural |"
     );
-    println!("|---|---:|---:|---:|---:|---:|---:|");
+    println!("|---|---:|---:|---:|---:|---:|---:|---:|---:|---:|---:|");
     for workload in workloads {
         measure(workload, rounds);
     }
@@ -142,18 +160,36 @@ fn measure_recordings(random: &mut Random, rounds: usize) {
 }
 
 fn measure(workload: Workload, rounds: usize) {
+    let name = workload.name;
     let sides = [workload.exported, workload.own_state, workload.image];
-    let (calls, times) = timed(workload.name, sides, rounds);
+    let Some(Baselines { inplace, natural }) = workload.baselines else {
+        let (calls, times) = timed(name, sides, rounds);
+        println!("| {name} | {calls} {}| | | | |", model_columns(&times));
+        return;
+    };
+    let [exported, own_state, image] = sides;
+    let sides = [exported, own_state, image, inplace, natural];
+    let (calls, times) = timed(name, sides, rounds);
     println!(
-        "| {} | {} | {:.0} | {:.0} | {:.0} | {:.2} | {:.2} |",
-        workload.name,
-        calls,
-        median(times[0].clone()),
-        median(times[1].clone()),
-        median(times[2].clone()),
-        ratio(&times[0], &times[1]),
-        ratio(&times[0], &times[2])
+        "| {name} | {calls} {}{}|",
+        model_columns(&times),
+        columns(&times[0], &times[3..])
     );
+}
+
+/// The exported side and the model's two.
+fn model_columns(times: &[Vec<f64>]) -> String {
+    let exported = median(times[0].clone());
+    format!("| {exported:.0} {}", columns(&times[0], &times[1..3]))
+}
+
+/// The times of other sides, then the ratios of the exported side to them.
+fn columns(exported: &[f64], others: &[Vec<f64>]) -> String {
+    let times = others.iter().map(|other| median(other.clone()));
+    let times: String = times.map(|time| format!("| {time:.0} ")).collect();
+    let ratios = others.iter().map(|other| ratio(exported, other));
+    let ratios: String = ratios.map(|ratio| format!("| {ratio:.2} ")).collect();
+    times + &ratios
 }
 
 fn measure_recording(workload: RecordingWorkload, rounds: usize) {
@@ -275,6 +311,17 @@ fn full_image(random: &mut Random) -> [u8; RECEIVER_IMAGE] {
     image
 }
 
+/// A board that has received, and has nothing under way.
+fn done_image() -> [u8; RECEIVER_IMAGE] {
+    let mut state = receiver::State::start();
+    state.greatest = Some(100);
+    state.rows = [receiver::Row::empty(receiver::Phase::Done); receiver::ROWS];
+    assert!(state.is_sound());
+    let mut image = [0; RECEIVER_IMAGE];
+    state.encode(&mut image);
+    image
+}
+
 /// Octets, as of a pool, and an output, each at the start of a page, so that all sides have them placed
 /// alike.
 fn lent(octets: &[u8], output: usize) -> (&'static mut [u8], &'static mut [u8]) {
@@ -349,6 +396,41 @@ fn receiving<'a>(name: &'static str, reception: &'a Reception) -> Workload<'a> {
                 interface::receive(image, pool, frame, place, output, result, &mut ())
             },
         )),
+        baselines: Some(Baselines {
+            inplace: Box::new(through_image(inplace::receive)),
+            natural: Box::new(natural_side(reception)),
+        }),
+    }
+}
+
+/// The natural receiver; its state is put back before a run, as the images of the other sides are.
+fn natural_side(reception: &Reception) -> impl FnMut() -> Work + '_ {
+    let state = receiver::State::decode(&reception.image).expect("a state");
+    let begin = natural::Receiver::restored(&state, &reception.pool);
+    let mut receiver = begin.clone();
+    let (_, output) = lent(&[], MIN_OUTPUT);
+    let output: &mut [u8; MIN_OUTPUT] = output.try_into().expect("the output's length");
+    move || {
+        let mut work = Work::default();
+        receiver.become_like(&begin);
+        for frame in &reception.frames {
+            let mut place = 0;
+            loop {
+                let answer = receiver.receive(frame, place, output);
+                work.calls += 1;
+                match answer.expect("not refused") {
+                    receiver::Answer::Finished => break,
+                    receiver::Answer::Bundle { length, next, .. } => {
+                        work.bundle(&output[..length]);
+                        place = next;
+                    }
+                }
+                if !reception.to_end {
+                    break;
+                }
+            }
+        }
+        work
     }
 }
 
@@ -402,6 +484,7 @@ fn sending<'a>(name: &'static str, frame_size: u64, bundles: &'a [Vec<u8>]) -> W
         exported: Box::new(through_image(raw::sender_start, raw::place)),
         own_state: Box::new(own_state),
         image: Box::new(through_image(interface::sender_start, interface::place)),
+        baselines: None,
     }
 }
 

@@ -1,0 +1,218 @@
+//! A receiver for a host in Rust: a state of its own that nobody else can touch, so that no call checks
+//! it; pieces by index; the indexes held as bits.
+
+use super::{check, entry, join, read, Entry, Span};
+use crate::model::receiver::{self, Answer, Phase, CELL, MAX_PIECES, ROWS};
+use crate::model::wire::{Message, Piece};
+use crate::model::Refusal;
+
+#[derive(Clone, Copy)]
+struct Row {
+    phase: Phase,
+    last: Option<u8>,
+    present: u64,
+    octets: usize,
+    /// Of the indexes that are present.
+    pieces: [Span; MAX_PIECES],
+}
+
+#[derive(Clone)]
+pub struct Receiver {
+    greatest: Option<u32>,
+    rows: Box<[Row; ROWS]>,
+    pool: Box<[[u8; CELL]; ROWS]>,
+}
+
+impl Default for Receiver {
+    fn default() -> Receiver {
+        let row = Row {
+            phase: Phase::Free,
+            last: None,
+            present: 0,
+            octets: 0,
+            pieces: [(0, 0); MAX_PIECES],
+        };
+        Receiver {
+            greatest: None,
+            rows: Box::new([row; ROWS]),
+            pool: Box::new([[0; CELL]; ROWS]),
+        }
+    }
+}
+
+impl Row {
+    fn empty(&mut self, phase: Phase) {
+        self.phase = phase;
+        self.last = None;
+        self.present = 0;
+        self.octets = 0;
+    }
+
+    fn is_settled(&self) -> bool {
+        !matches!(self.phase, Phase::Free | Phase::Open)
+    }
+
+    fn contradicts(&self, piece: &Piece) -> bool {
+        match self.last.map(u32::from) {
+            Some(last) => piece.index > last || piece.end != (piece.index == last),
+            None => piece.end && self.present >> piece.index != 0,
+        }
+    }
+
+    /// Treats a piece; the answer is the length of the bundle that it completes.
+    #[inline]
+    fn take(
+        &mut self,
+        piece: &Piece,
+        cell: &mut [u8; CELL],
+        output: &mut [u8; CELL],
+    ) -> Option<usize> {
+        if self.is_settled() {
+            return None;
+        }
+        if piece.index >= MAX_PIECES as u32 || self.contradicts(piece) {
+            self.empty(Phase::GivenUp);
+            return None;
+        }
+        if self.present >> piece.index & 1 == 1 {
+            return None;
+        }
+        let Some(to) = cell[self.octets..].get_mut(..piece.data.len()) else {
+            self.empty(Phase::GivenUp);
+            return None;
+        };
+        to.copy_from_slice(piece.data);
+        self.phase = Phase::Open;
+        self.present |= 1 << piece.index;
+        self.pieces[piece.index as usize] = (self.octets as u16, piece.data.len() as u16);
+        self.octets += piece.data.len();
+        if piece.end {
+            self.last = Some(piece.index as u8);
+        }
+        let last = self.last?;
+        if self.present != u64::MAX >> (MAX_PIECES as u8 - 1 - last) {
+            return None;
+        }
+        let octets = self.octets;
+        join(&self.pieces[..=usize::from(last)], octets, cell, output);
+        self.empty(Phase::Done);
+        Some(octets)
+    }
+
+    /// The same row; pieces that are not present may be others.
+    fn become_like(&mut self, row: &Row) {
+        if row.present != 0 {
+            *self = *row;
+        } else {
+            self.empty(row.phase);
+        }
+    }
+
+    fn restored(row: &receiver::Row) -> Row {
+        let mut restored = Row {
+            phase: row.phase,
+            last: row.last,
+            present: 0,
+            octets: 0,
+            pieces: [(0, 0); MAX_PIECES],
+        };
+        let pieces = row.index.iter().zip(row.length);
+        for (&index, length) in pieces.take(usize::from(row.held)) {
+            restored.present |= 1 << index;
+            restored.pieces[usize::from(index)] = (restored.octets as u16, length);
+            restored.octets += usize::from(length);
+        }
+        restored
+    }
+}
+
+impl Receiver {
+    /// A receiver with the model's state, which must be sound, and a pool of the pool's size.
+    pub fn restored(state: &receiver::State, pool: &[u8]) -> Receiver {
+        let mut receiver = Receiver {
+            greatest: state.greatest,
+            rows: Box::new(state.rows.each_ref().map(Row::restored)),
+            ..Receiver::default()
+        };
+        receiver.pool.as_flattened_mut().copy_from_slice(pool);
+        receiver
+    }
+
+    /// Goes back to the state of another receiver; the pool stays.
+    pub fn become_like(&mut self, receiver: &Receiver) {
+        self.greatest = receiver.greatest;
+        for (row, other) in self.rows.iter_mut().zip(receiver.rows.iter()) {
+            row.become_like(other);
+        }
+    }
+
+    /// Places the number in the window and answers its row, or nothing if it lies outside.
+    #[inline]
+    fn enter(&mut self, number: u32) -> Option<usize> {
+        match entry(*self.greatest.get_or_insert(number), number) {
+            Entry::Outside => return None,
+            Entry::Inside => {}
+            Entry::New(entered) => {
+                self.greatest = Some(number);
+                for back in 0..entered {
+                    self.rows[number.wrapping_sub(back) as usize % ROWS].empty(Phase::Free);
+                }
+            }
+        }
+        Some(number as usize % ROWS)
+    }
+
+    fn cancel(&mut self, number: u32) {
+        if let Some(row) = self.enter(number) {
+            if !self.rows[row].is_settled() {
+                self.rows[row].empty(Phase::Cancelled);
+            }
+        }
+    }
+
+    /// Treats a message; the answer is the length of the bundle that it hands out, and its number.
+    #[inline(always)]
+    fn treat(&mut self, message: Message, output: &mut [u8; CELL]) -> Option<(usize, Option<u32>)> {
+        match message {
+            Message::Passed => None,
+            Message::Bundle(content) => {
+                output[..content.len()].copy_from_slice(content);
+                Some((content.len(), None))
+            }
+            Message::Cancel(number) => {
+                self.cancel(number);
+                None
+            }
+            Message::Piece(piece) => {
+                let row = self.enter(piece.number)?;
+                let length = self.rows[row].take(&piece, &mut self.pool[row], output)?;
+                Some((length, Some(piece.number)))
+            }
+        }
+    }
+
+    /// Treats the messages from `place` up to the first bundle, which is put into the output.
+    pub fn receive(
+        &mut self,
+        frame: &[u8],
+        place: usize,
+        output: &mut [u8; CELL],
+    ) -> Result<Answer, Refusal> {
+        check(frame, place as u64)?;
+        let mut at = place;
+        while at < frame.len() {
+            let Ok((message, next)) = read(frame, at) else {
+                unreachable!("the whole frame was checked");
+            };
+            if let Some((length, number)) = self.treat(message, output) {
+                return Ok(Answer::Bundle {
+                    length,
+                    next,
+                    number,
+                });
+            }
+            at = next;
+        }
+        Ok(Answer::Finished)
+    }
+}
