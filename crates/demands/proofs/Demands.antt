@@ -25,29 +25,30 @@ use Rattle.demands.proofs.Senders.{used-states, flush-sends}
 
 -- ---- a fresh board
 
-fresh-board : (b : Board) → Rows.Board
-fresh-board b = with (fresh windowSize) (b .pool)
+-- the board that it is on states
+abbrev freshOf : Board → Rows.Board
+freshOf b = with (fresh windowSize) (b .pool)
 
 module _ (b : Board) (F : Fresh b) where
   on-fresh : On (fresh windowSize) b
   unfolding Exported.started
   on-fresh = record { image = F .started; good = fresh-good }
 
-  fresh-state : States.Fresh windowSize (with (fresh windowSize) (b .pool))
+  fresh-state : States.Fresh windowSize (freshOf b)
   fresh-state = record { started = refl; pooled = F .pooled }
 
-  state-fresh : onState b ≡ with (fresh windowSize) (b .pool)
+  state-fresh : onState b ≡ freshOf b
   state-fresh =
       let e : stateOf (b .image) ≡ fresh windowSize = ap stateOf (on-fresh .image) ∙ state-back (fresh windowSize) (fits (fresh windowSize) fresh-good) in
       λ j. record { state = e j; pool = b .pool }
 
-  image-fresh : imaged (with (fresh windowSize) (b .pool)) ≡ b
+  image-fresh : imaged (freshOf b) ≡ b
   image-fresh = λ j. record { image = sym (on-fresh .image) j; pool = b .pool }
 
-  to-states : (es : List Entry) → Calls b es → States.Calls draft02 windowSize (with (fresh windowSize) (b .pool)) es
+  to-states : (es : List Entry) → Calls b es → States.Calls draft02 windowSize (freshOf b) es
   to-states es c = calls-states c (fresh windowSize) on-fresh
 
-  to-images : (es : List Entry) → ((e : Entry) → List·Memᴰ e es → Octets (e .frame)) → States.Calls draft02 windowSize (with (fresh windowSize) (b .pool)) es → Calls b es
+  to-images : (es : List Entry) → ((e : Entry) → List·Memᴰ e es → Octets (e .frame)) → States.Calls draft02 windowSize (freshOf b) es → Calls b es
   to-images es low c = rw image-fresh at (calls-images c fresh-good low)
 
 pub same-calls : SameCalls
@@ -63,7 +64,7 @@ same-calls =
 module _ (R : Record draft02) where
   on-states : (es : List Entry) → Reception R es → States3.Reception R windowSize es
   on-states es P =
-      record { board = with (fresh windowSize) (P .board .pool); fresh = fresh-state (P .board) (P .fresh); calls = to-states (P .board) (P .fresh) es (P .calls); drawn = P .drawn }
+      record { board = freshOf (P .board); fresh = fresh-state (P .board) (P .fresh); calls = to-states (P .board) (P .fresh) es (P .calls); drawn = P .drawn }
 
   pub demand3 : Demand3 R
   demand3 =
@@ -80,12 +81,12 @@ module _ (fs : List (List ℕ)) (bs : List Handed) (S : Flushed fs bs) (b : Boar
   exists : (es : List Entry) × Calls b es × (map (λ (e : Entry). e .frame) es ≡ fs)
   exists =
       let s = flush-sends fs bs S in
-      let x = States2.demand2 .exists fs bs (s .flushed) (with (fresh windowSize) (b .pool)) (fresh-state b F) in
+      let x = States2.demand2 .exists fs bs (s .flushed) (freshOf b) (fresh-state b F) in
       (x .0, to-images b F (x .0) (λ e m. s .octets (e .frame) (rw (x .2) at (Memᴰ·map (λ (e : Entry). e .frame) m))) (x .1), x .2)
 
 pub demand2 : Demand2
 demand2 =
     record {
-      arrives = λ fs bs S b F es c. States2.demand2 .arrives fs bs (flush-sends fs bs S .flushed) (with (fresh windowSize) (b .pool)) (fresh-state b F) es (to-states b F es c);
+      arrives = λ fs bs S b F es c. States2.demand2 .arrives fs bs (flush-sends fs bs S .flushed) (freshOf b) (fresh-state b F) es (to-states b F es c);
       exists = exists;
     }

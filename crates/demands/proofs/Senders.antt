@@ -39,6 +39,10 @@ pub record Good (s : State) : Type 0 where
 pub fits : (s : State) → Good s → StateFits s
 fits s g = sound-state-fits s (g .sound) (g .numbered .next) (g .numbered .number)
 
+begun-on : (s : State) → Good s → isBegun (imageOf s) ≡ s .begun
+unfolding stateOf
+begun-on s g = ap (λ (x : State). x .begun) (state-back s (fits s g))
+
 pub call-good : (c : Call) (s : State) (d : List ℕ) → Good s → Good (outcomeOf c s d .state)
 unfolding outcomeOf
 call-good (toPlace b) s d g = record { sound = place-sound s b d (g .sound); numbered = place-numbered s b d (g .numbered) }
@@ -145,16 +149,11 @@ module _ (s : State) (g : Good s) (c : Call) (d result : List ℕ) where
     finished-same : (b : List ℕ) → finished (imageOf s) b e ≡ Use.finished s b o
     unfolding finished Use.finished stateOf
     finished-same b =
-        let begun : isBegun (imageOf s) ≡ s .begun = ap (λ (x : State). x .begun) (state-back s (fits s g)) in
         let number : begunNumber (imageOf s) ≡ s .number = ap (λ (x : State). x .number) (state-back s (fits s g)) in
-        let after : isBegun (e .image) ≡ o .state .begun = ap isBegun image-left ∙ ap (λ (x : State). x .begun) (state-back (o .state) (fits (o .state) (call-good c s d g))) in
-        rw (reads-placed, begun, number, after)
+        let after : isBegun (e .image) ≡ o .state .begun = ap isBegun image-left ∙ begun-on (o .state) (call-good c s d g) in
+        rw (reads-placed, begun-on s g, number, after)
 
 -- ---- a use
-
-pub begun-on : (s : State) → Good s → isBegun (imageOf s) ≡ s .begun
-unfolding stateOf
-begun-on s g = ap (λ (x : State). x .begun) (state-back s (fits s g))
 
 placed-octets : (a b : List ℕ) → toPlace a ≡ toPlace b → Octets a → Octets b
 placed-octets a b e low = let same : a ≡ b = cc in rw (← same) low
@@ -209,11 +208,11 @@ module _ (p n : ℕ) (n< : n < 2 ^ 32) where
   OnStates d b fs bs s = Use.Used p n s d b fs bs
 
   -- a call that goes on
-  on-call : (c : Call) (s : State) → Good s → (d b result : List ℕ) (fs : List (List ℕ)) (bs bs′ : List Handed) → length result ≡ 4 → ((b : List ℕ) → c ≡ toPlace b → Octets b) → Octets d → Each fs
-      → Use.Used p n (outcomeOf c s d .state) (outcomeOf c s d .frame) b (fs ++ Use.taken (outcomeOf c s d)) bs′
+  on-call : (c : Call) (s : State) → Good s → (d b result : List ℕ) (fs : List (List ℕ)) (bs : List Handed) → length result ≡ 4 → ((b : List ℕ) → c ≡ toPlace b → Octets b) → Octets d → Each fs
+      → Use.Used p n (outcomeOf c s d .state) (outcomeOf c s d .frame) b (fs ++ Use.taken (outcomeOf c s d)) bs
       → let e : Exported = callOf c (imageOf s) d result in
-      Came (OnStates (e .frame) b (fs ++ taken e) bs′) (e .image) (e .frame) (fs ++ taken e)
-  on-call c s g d b result fs bs bs′ four low h each u =
+      Came (OnStates (e .frame) b (fs ++ taken e) bs) (e .image) (e .frame) (fs ++ taken e)
+  on-call c s g d b result fs bs four low h each u =
       let o : Outcome = outcomeOf c s d in
       let w = call-octets c s d g low h in
       rw (taken-same s g c d result four, frame-left s g c d result)
@@ -232,13 +231,13 @@ module _ (p n : ℕ) (n< : n < 2 ^ 32) where
     unfolding callOf outcomeOf
     on-placing a result low four same =
         let u = Use.placing a (λ q. same (ap isBegun (k .on) ∙ begun-on s (k .good) ∙ q)) (k .is) in
-        let h = on-call (toPlace a) s (k .good) d a result fs bs (bs ++ Use.finished s a (place s a d)) four (λ b e. placed-octets a b e low) (k .octets) (k .each) u in
+        let h = on-call (toPlace a) s (k .good) d a result fs (bs ++ Use.finished s a (place s a d)) four (λ b e. placed-octets a b e low) (k .octets) (k .each) u in
         rw (same-call (toPlace a) d result, ap (λ (i : List ℕ). finished i a (placedBy (imageOf s) a d result)) (k .on), finished-same s (k .good) (toPlace a) d result four a) h
 
     on-other : (c : Call) (result : List ℕ) → length result ≡ 4 → ((b : List ℕ) → c ≡ toPlace b → Octets b)
         → Use.Used p n (outcomeOf c s d .state) (outcomeOf c s d .frame) b (fs ++ Use.taken (outcomeOf c s d)) bs → let e : Exported = callOf c image d result in
         Came (OnStates (e .frame) b (fs ++ taken e) bs) (e .image) (e .frame) (fs ++ taken e)
-    on-other c result four low u = rw (same-call c d result) (on-call c s (k .good) d b result fs bs bs four low (k .octets) (k .each) u)
+    on-other c result four low u = rw (same-call c d result) (on-call c s (k .good) d b result fs bs four low (k .octets) (k .each) u)
 
     on-refusing : (c : Call) (other result : List ℕ) → (callOf c image other result .status ≡ 0 → ⊥) → Came (OnStates d b fs bs) (callOf c image other result .image) d fs
     on-refusing c other result r =
