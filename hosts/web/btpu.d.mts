@@ -1,0 +1,141 @@
+/** Types of btpu.mjs. */
+
+export type Octets = Uint8Array | ArrayBufferView | ArrayBuffer;
+
+/** The module, or where it is. */
+export type Source = string | URL | Response | BufferSource | WebAssembly.Module | Promise<Response | BufferSource | WebAssembly.Module>;
+
+/** A bundle handed out. */
+export interface Bundle {
+  /** Its transfer number; null if it came in one message, outside of any transfer. */
+  number: number | null;
+  /** A copy, which belongs to the caller. */
+  octets: Uint8Array;
+}
+
+/** Why a frame was refused. */
+export interface Refusal {
+  /** The number of btpu.h: 1 to 9. */
+  number: number;
+  /** For 4 to 8 the octet of the frame, from 0, at which the bad message starts. */
+  place: number | null;
+  words: string;
+}
+
+export type Phase = 'free' | 'open' | 'done' | 'cancelled' | 'given up';
+
+/** What a receiver knows of one transfer. */
+export interface Row {
+  /** Its place in the window: the transfer number modulo 16. */
+  row: number;
+  /** The transfer that the row stands for; null as long as no transfer number is known. */
+  number: number | null;
+  phase: Phase;
+  /** The index of the last piece, if it is held. */
+  last: number | null;
+  /** The pieces held, in order of arrival. */
+  pieces: { index: number; length: number }[];
+}
+
+export interface Window {
+  /** The greatest transfer number so far. */
+  greatest: number | null;
+  rows: Row[];
+}
+
+/** What came out of a playback. */
+export interface Playback {
+  /** Messages treated. */
+  messages: number;
+  /** The bundles, in the order in which they were handed out. */
+  bundles: Uint8Array[];
+  /** The frames that were looked at and refused: the place of each in the recording, from 0, and why. */
+  refused: { frame: number; number: number; words: string }[];
+}
+
+export interface SavedReceiver {
+  image: Uint8Array;
+  pool: Uint8Array;
+}
+
+export interface SavedSender {
+  image: Uint8Array;
+  frame: Uint8Array;
+}
+
+export interface SenderStart {
+  /** 128 to 2,048 octets. */
+  frameSize: number;
+  /** The number of the first transfer. */
+  firstNumber: number;
+}
+
+export const SIZES: Readonly<{
+  receiverImage: 3144;
+  senderImage: 24;
+  pool: 65536;
+  output: 4096;
+  bundle: 4096;
+  frame: 2048;
+  recording: 63496;
+  recordedFrames: 1024;
+  recordedOctets: 61440;
+  playedBundles: 15360;
+}>;
+
+export function words(number: number): string;
+export function hasMemory64(): boolean;
+export function load(source?: Source): Promise<WebAssembly.Module>;
+export function readWindow(image: Uint8Array): Window;
+
+/** A call that was refused because of what the caller gave. It changed nothing. */
+export class RefusalError extends Error {
+  constructor(returned: number);
+  number: number;
+}
+
+/** The module trapped. What trapped can't be used again: make a new one, and restore what was saved last. */
+export class TrapError extends Error {
+  constructor(message: string, cause: unknown);
+  /** Bundles that the same frame had handed out before the trap. */
+  bundles: Bundle[];
+}
+
+/** Takes frames, in any order and with losses, and hands bundles out. */
+export class Receiver {
+  static create(source?: Source): Promise<Receiver>;
+  constructor(instance: WebAssembly.Instance);
+  get broken(): boolean;
+  restart(): void;
+  receive(frame: Octets): { bundles: Bundle[]; refusal: Refusal | null };
+  window(): Window;
+  save(): SavedReceiver;
+  restore(saved: { image: Octets; pool: Octets }): void;
+}
+
+/** Fills frames of one size with bundles, whole or in pieces. */
+export class Sender {
+  static create(start: SenderStart, source?: Source): Promise<Sender>;
+  constructor(instance: WebAssembly.Instance, start: SenderStart);
+  get broken(): boolean;
+  get frameSize(): number;
+  get fill(): number;
+  get nextNumber(): number;
+  get begun(): boolean;
+  send(bundle: Octets): Uint8Array[];
+  place(bundle: Octets): { ended: boolean; frame: Uint8Array | null };
+  cancel(): void;
+  flush(): Uint8Array | null;
+  save(): SavedSender;
+  restore(saved: { image: Octets; frame: Octets }): void;
+}
+
+/** Writes, opens and plays recordings. */
+export class Recorder {
+  static create(source?: Source): Promise<Recorder>;
+  constructor(instance: WebAssembly.Instance);
+  get broken(): boolean;
+  record(frames: Iterable<Octets>): Uint8Array;
+  open(recording: Octets): Uint8Array[];
+  play(recording: Octets, limit?: { messages?: number }): Playback;
+}

@@ -1,0 +1,666 @@
+// @ts-check
+/**
+ * Bundle transfer over frames for browsers and node: receiver, sender and recordings, over btpu.wasm, the proved library
+ * compiled for WebAssembly. It depends on nothing else; types stand in btpu.d.mts.
+ *
+ *     import { Receiver } from './btpu.mjs';
+ *     const receiver = await Receiver.create();               // loads btpu.wasm from beside this file
+ *     const { bundles, refusal } = receiver.receive(frame);   // a frame: a Uint8Array of 1 to 2,048 octets
+ *
+ * Each receiver and each sender has an instance of the module, and so memory, of its own: a trap in one touches no other. The
+ * module imports nothing and its memory never grows, so no call comes back into this file and no view of the memory goes stale.
+ * @module
+ */
+
+/** @typedef {import('./btpu.mjs').Octets} Octets */
+/** @typedef {import('./btpu.mjs').Source} Source */
+/** @typedef {import('./btpu.mjs').Bundle} Bundle */
+/** @typedef {import('./btpu.mjs').Refusal} Refusal */
+/** @typedef {{ at: number, octets: Uint8Array, pointer: number | bigint }} Lent octets of the module's memory */
+
+/** Sizes in octets, and of lists in entries, as in btpu.h. */
+export const SIZES = Object.freeze({
+  receiverImage: 3144,
+  senderImage: 24,
+  pool: 65536,
+  output: 4096,
+  bundle: 4096,
+  frame: 2048,
+  recording: 63496,
+  recordedFrames: 1024,
+  recordedOctets: 61440,
+  playedBundles: 15360,
+});
+
+const EXPORTS = [
+  'btpu_receiver_start', 'btpu_receiver_check', 'btpu_receive',
+  'btpu_sender_start', 'btpu_sender_check', 'btpu_place', 'btpu_cancel', 'btpu_flush',
+  'btpu_record', 'btpu_recording_open', 'btpu_play',
+];
+const FINISHED = 0;
+const NO_NUMBER = 2 ** 32;
+const PLACED = 0, PLACED_AND_READY = 1, READY = 2;
+
+/** @type {Readonly<Record<number, string>>} */
+const WORDS = Object.freeze({
+  1: 'not a sound state',
+  2: 'pool not 65,536 octets, or output below 4,096',
+  3: 'frame of 0 or more than 2,048 octets',
+  4: 'fewer than 4 octets left for a header',
+  5: 'reserved flag bits',
+  6: 'a length runs past the frame',
+  7: 'a chain of hints runs past its message',
+  8: 'content of a transfer message too short, or of a cancel not 4 octets',
+  9: 'not a good place',
+  10: 'frame buffer not of the frame size',
+  11: 'bundle of 0 or more than 4,096 octets',
+  12: 'not the length of the transfer begun',
+  13: 'no transfer is begun',
+  14: 'frame size outside 128 to 2,048',
+  16: 'octets of the recording are missing',
+  17: 'more than 1,024 frames or 61,440 octets',
+  18: "a frame's length outside 1 to 2,048",
+  19: 'the octets are not the sum of the lengths',
+  20: 'octets behind the recording',
+  24: 'output too short',
+});
+
+/**
+ * A refusal in words, by its number.
+ * @param {number} number
+ * @returns {string}
+ */
+export const words = (number) => WORDS[number] ?? 'no refusal of this library';
+
+/**
+ * What a function returned, taken apart; the place has a meaning for 4 to 8.
+ * @param {number} returned
+ * @returns {Refusal}
+ */
+function refusalOf(returned) {
+  const number = returned & 255;
+  return { number, place: number >= 4 && number <= 8 ? returned >>> 8 : null, words: words(number) };
+}
+
+/** A call that was refused because of what the caller gave. It changed nothing. */
+export class RefusalError extends Error {
+  /** @param {number} returned what the function of the library returned */
+  constructor(returned) {
+    const { number, words } = refusalOf(returned);
+    super(`refusal ${number}: ${words}`);
+    this.name = 'RefusalError';
+    this.number = number;
+  }
+}
+
+/** The module trapped. What trapped can't be used again: make a new one, and restore what was saved last. */
+export class TrapError extends Error {
+  /**
+   * @param {string} message
+   * @param {unknown} cause
+   */
+  constructor(message, cause) {
+    super(message, { cause });
+    this.name = 'TrapError';
+    /**
+     * Bundles that the same frame had handed out before the trap.
+     * @type {Bundle[]}
+     */
+    this.bundles = [];
+  }
+}
+
+/**
+ * Whether this engine runs wasm64 modules.
+ * @returns {boolean}
+ */
+export const hasMemory64 = () => WebAssembly.validate(Uint8Array.of(0, 97, 115, 109, 1, 0, 0, 0, 5, 3, 1, 4, 0));
+
+/**
+ * Compiles the module, once for any number of receivers and senders.
+ * @param {Source} [source] the module or where it is; btpu.wasm beside this file if not given
+ * @returns {Promise<WebAssembly.Module>}
+ */
+export async function load(source) {
+  let from = await (source ?? new URL('btpu.wasm', import.meta.url));
+  if (typeof from === 'string') from = new URL(from, typeof document === 'undefined' ? import.meta.url : document.baseURI);
+  if (from instanceof URL) {
+    const inNode = from.protocol === 'file:' && typeof process !== 'undefined';
+    from = inNode ? await (await import('node:fs/promises')).readFile(from) : await fetch(from);
+  }
+  if (typeof Response !== 'undefined' && from instanceof Response) {
+    if (!from.ok) throw new Error(`the module was not loaded: ${from.status} ${from.statusText}`);
+    from = await from.arrayBuffer();
+  }
+  const module = from instanceof WebAssembly.Module ? from : await WebAssembly.compile(/** @type {BufferSource} */ (from));
+  const exported = new Set(WebAssembly.Module.exports(module).map((e) => e.name));
+  const missing = EXPORTS.filter((name) => !exported.has(name));
+  if (missing.length > 0) throw new TypeError(`not a btpu module: it lacks ${missing.join(', ')}`);
+  if (WebAssembly.Module.imports(module).length > 0) throw new TypeError('not a btpu module: it imports something');
+  return module;
+}
+
+/** @param {Source} [source] */
+const instantiate = async (source) => WebAssembly.instantiate(await load(source));
+
+/**
+ * Octets as a Uint8Array; anything else is an error, and no empty frame.
+ * @param {unknown} value
+ * @param {string} what
+ */
+function octetsOf(value, what) {
+  if (value instanceof Uint8Array) return value;
+  if (ArrayBuffer.isView(value)) return new Uint8Array(value.buffer, value.byteOffset, value.byteLength);
+  if (value instanceof ArrayBuffer) return new Uint8Array(value);
+  throw new TypeError(`${what} is a Uint8Array, another view or an ArrayBuffer, and not ${value === null ? 'null' : typeof value}`);
+}
+
+/**
+ * Parts of what was saved, of known lengths.
+ * @param {unknown} saved
+ * @param {Record<string, number>} lengths
+ */
+function partsOf(saved, lengths) {
+  const names = Object.keys(lengths).join(' and ');
+  if (saved === null || typeof saved !== 'object') throw new TypeError(`what was saved is an object with ${names}`);
+  return Object.entries(lengths).map(([name, length]) => {
+    const octets = octetsOf(/** @type {Record<string, unknown>} */ (saved)[name], name);
+    if (octets.length !== length) throw new RangeError(`${name} has ${octets.length} octets, not ${length}`);
+    return octets;
+  });
+}
+
+/**
+ * @param {unknown} value
+ * @param {number} most
+ * @param {string} what
+ */
+function wholeNumber(value, most, what) {
+  if (!Number.isInteger(value) || /** @type {number} */ (value) < 0 || /** @type {number} */ (value) > most) {
+    throw new RangeError(`${what} is a whole number from 0 to ${most}`);
+  }
+}
+
+/**
+ * Octets cut into parts of these lengths.
+ * @param {Uint8Array} octets
+ * @param {Iterable<number>} lengths
+ */
+function cut(octets, lengths) {
+  const parts = [];
+  let at = 0;
+  for (const length of lengths) parts.push(octets.slice(at, (at += length)));
+  return parts;
+}
+
+/** One instance of the module and the memory that it is lent. */
+class Machine {
+  /** @type {Record<string, any>} */ #exports;
+  /** @type {ArrayBuffer} */ #memory;
+  /** @type {number} */ #free;
+  /** @type {(address: number) => number | bigint} */ #pointer;
+  /** @type {unknown} */ #trap = null;
+  /** @type {Lent} */ #result;
+  /** @type {DataView} */ view;
+
+  /** @param {WebAssembly.Instance} instance */
+  constructor(instance) {
+    this.#exports = instance.exports;
+    this.#memory = this.#exports.memory.buffer;
+    this.view = new DataView(this.#memory);
+    const base = this.#exports.__heap_base.value;
+    this.#pointer = typeof base === 'bigint' ? BigInt : Number; // of a wasm64 module addresses are BigInt
+    this.#free = Number(base);
+    this.#result = this.lend(32);
+  }
+
+  /**
+   * Lends octets that nothing else uses, above the module's stack and data, aligned to 16.
+   * @param {number} size
+   * @returns {Lent}
+   */
+  lend(size) {
+    const at = (this.#free + 15) & ~15;
+    if (at + size > this.#memory.byteLength) throw new RangeError(`the module's memory of ${this.#memory.byteLength} octets is too small`);
+    this.#free = at + size;
+    return { at, octets: new Uint8Array(this.#memory, at, size), pointer: this.#pointer(at) };
+  }
+
+  /**
+   * An entry of the result: all have a meaning below 2 to the 53.
+   * @param {number} entry
+   */
+  result(entry) {
+    return Number(this.view.getBigUint64(this.#result.at + 8 * entry, true));
+  }
+
+  get resultPointer() {
+    return this.#result.pointer;
+  }
+
+  get broken() {
+    return this.#trap !== null;
+  }
+
+  usable() {
+    if (this.#trap !== null) throw new TrapError('the module trapped before: make a new one, and restore what was saved last', this.#trap);
+  }
+
+  /**
+   * Calls an exported function and answers what it returned. Lengths, places and limits go as BigInt, whatever the addresses.
+   * @param {string} name
+   * @param {(number | bigint)[]} words
+   */
+  call(name, ...words) {
+    this.usable();
+    try {
+      return this.#exports[name](...words) >>> 0;
+    } catch (e) {
+      // The module's stack pointer and the lent memory stay as they were in mid-call.
+      this.#trap = e;
+      throw new TrapError(`the module trapped: ${e instanceof Error ? e.message : e}`, e);
+    }
+  }
+
+  /**
+   * A call whose refusal is an error.
+   * @param {string} name
+   * @param {(number | bigint)[]} words
+   */
+  must(name, ...words) {
+    const returned = this.call(name, ...words);
+    if (returned !== 0) throw new RefusalError(returned);
+  }
+}
+
+const PHASES = /** @type {const} */ (['free', 'open', 'done', 'cancelled', 'given up']);
+
+/**
+ * The window of a receiver's image: the greatest number and the 16 rows. The image is taken to be a sound one.
+ * @param {Uint8Array} image
+ * @returns {import('./btpu.mjs').Window}
+ */
+export function readWindow(image) {
+  if (image.length !== SIZES.receiverImage) throw new RangeError(`an image has ${SIZES.receiverImage} octets`);
+  const view = new DataView(image.buffer, image.byteOffset, image.byteLength);
+  const greatest = image[0] === 1 ? view.getUint32(4) : null;
+  const rows = Array.from({ length: 16 }, (_, row) => {
+    const at = 8 + 196 * row;
+    return {
+      row,
+      // of the 16 numbers up to the greatest, the one with this row
+      number: greatest === null ? null : (greatest - ((greatest - row) & 15)) >>> 0,
+      phase: PHASES[image[at]],
+      last: image[at + 1] === 1 ? image[at + 2] : null,
+      pieces: Array.from({ length: image[at + 3] }, (_, k) => ({ index: image[at + 4 + k], length: view.getUint16(at + 68 + 2 * k) })),
+    };
+  });
+  return { greatest, rows };
+}
+
+/** Takes frames, in any order and with losses, and hands bundles out. */
+export class Receiver {
+  /** @type {Machine} */ #machine;
+  /** @type {Lent} */ #image;
+  /** @type {Lent} */ #pool;
+  /** @type {Lent} */ #frame;
+  /** @type {Lent} */ #output;
+
+  /**
+   * @param {Source} [source] as for load
+   * @returns {Promise<Receiver>}
+   */
+  static async create(source) {
+    return new Receiver(await instantiate(source));
+  }
+
+  /** @param {WebAssembly.Instance} instance of the module, used by nothing else */
+  constructor(instance) {
+    const machine = this.#machine = new Machine(instance);
+    this.#image = machine.lend(SIZES.receiverImage);
+    this.#pool = machine.lend(SIZES.pool);
+    this.#frame = machine.lend(SIZES.frame + 1);
+    this.#output = machine.lend(SIZES.output);
+    this.restart();
+  }
+
+  /** Whether a trap ended the use of this receiver. */
+  get broken() {
+    return this.#machine.broken;
+  }
+
+  /** Forgets all that was received. */
+  restart() {
+    this.#machine.must('btpu_receiver_start', this.#image.pointer);
+    this.#pool.octets.fill(0);
+  }
+
+  /**
+   * Takes a frame to its end. A refused frame changes nothing.
+   * @param {Octets} frame
+   * @returns {{ bundles: Bundle[], refusal: Refusal | null }} the bundles in the order in which they were handed out
+   */
+  receive(frame) {
+    this.#machine.usable();
+    const octets = octetsOf(frame, 'a frame');
+    // One octet more than a frame may have is enough for the library to refuse it.
+    const length = Math.min(octets.length, SIZES.frame + 1);
+    this.#frame.octets.set(octets.subarray(0, length));
+    /** @type {Bundle[]} */ const bundles = [];
+    let place = 0;
+    do {
+      const returned = this.#call(length, place, bundles);
+      if (returned !== 0) return { bundles, refusal: refusalOf(returned) };
+      if (this.#machine.result(0) === FINISHED) break;
+      const number = this.#machine.result(3);
+      bundles.push({ number: number === NO_NUMBER ? null : number, octets: this.#output.octets.slice(0, this.#machine.result(1)) });
+      place = this.#machine.result(2);
+    } while (place < length); // a call at the frame's end treats nothing
+    return { bundles, refusal: null };
+  }
+
+  /**
+   * @param {number} length
+   * @param {number} place
+   * @param {Bundle[]} bundles
+   */
+  #call(length, place, bundles) {
+    try {
+      return this.#machine.call('btpu_receive', this.#image.pointer, this.#pool.pointer, BigInt(SIZES.pool), this.#frame.pointer,
+        BigInt(length), BigInt(place), this.#output.pointer, BigInt(SIZES.output), this.#machine.resultPointer);
+    } catch (e) {
+      if (e instanceof TrapError) e.bundles = bundles;
+      throw e;
+    }
+  }
+
+  /** The greatest transfer number so far and the 16 rows of the window. */
+  window() {
+    this.#machine.usable();
+    return readWindow(this.#image.octets);
+  }
+
+  /**
+   * All that a receiver is, copied, to be stored. Store it in one piece with what was made of the bundles: a transfer that is
+   * done is not handed out again.
+   */
+  save() {
+    this.#machine.usable();
+    return { image: this.#image.octets.slice(), pool: this.#pool.octets.slice() };
+  }
+
+  /**
+   * Goes on from what was saved. An image that is no sound state is refused, and changes nothing.
+   * @param {{ image: Octets, pool: Octets }} saved
+   */
+  restore(saved) {
+    const [image, pool] = partsOf(saved, { image: SIZES.receiverImage, pool: SIZES.pool });
+    const kept = this.save().image;
+    this.#image.octets.set(image);
+    const returned = this.#machine.call('btpu_receiver_check', this.#image.pointer);
+    if (returned !== 0) {
+      this.#image.octets.set(kept);
+      throw new RefusalError(returned);
+    }
+    this.#pool.octets.set(pool);
+  }
+}
+
+/** Fills frames of one size with bundles, whole or in pieces. */
+export class Sender {
+  /** @type {Machine} */ #machine;
+  /** @type {Lent} */ #image;
+  /** @type {Lent} */ #frame;
+  /** @type {Lent} */ #bundle;
+  /**
+   * The bundle begun, where it is known.
+   * @type {Uint8Array | null}
+   */
+  #begun = null;
+
+  /**
+   * @param {{ frameSize: number, firstNumber: number }} start
+   * @param {Source} [source] as for load
+   * @returns {Promise<Sender>}
+   */
+  static async create(start, source) {
+    return new Sender(await instantiate(source), start);
+  }
+
+  /**
+   * @param {WebAssembly.Instance} instance of the module, used by nothing else
+   * @param {{ frameSize: number, firstNumber: number }} start
+   */
+  constructor(instance, { frameSize, firstNumber }) {
+    wholeNumber(frameSize, Number.MAX_SAFE_INTEGER, 'a frame size');
+    wholeNumber(firstNumber, 0xffffffff, 'a transfer number');
+    const machine = this.#machine = new Machine(instance);
+    this.#image = machine.lend(SIZES.senderImage);
+    machine.must('btpu_sender_start', this.#image.pointer, BigInt(frameSize), firstNumber | 0);
+    this.#frame = machine.lend(frameSize);
+    this.#bundle = machine.lend(SIZES.bundle + 1);
+  }
+
+  /** Whether a trap ended the use of this sender. */
+  get broken() {
+    return this.#machine.broken;
+  }
+
+  get frameSize() {
+    return this.#frame.octets.length;
+  }
+
+  /** Octets of the frame that is being filled. */
+  get fill() {
+    return this.#machine.view.getUint16(this.#image.at + 2);
+  }
+
+  /** The number that the next transfer gets. */
+  get nextNumber() {
+    return this.#machine.view.getUint32(this.#image.at + 4);
+  }
+
+  /** Whether a transfer is begun: some of its pieces are placed, and not all. */
+  get begun() {
+    return this.#image.octets[8] === 1;
+  }
+
+  /**
+   * Places a bundle to its end.
+   * @param {Octets} bundle 1 to 4,096 octets
+   * @returns {Uint8Array[]} the frames that became full: send them
+   */
+  send(bundle) {
+    const frames = [];
+    for (;;) {
+      const { ended, frame } = this.place(bundle);
+      if (frame !== null) frames.push(frame);
+      if (ended) return frames;
+    }
+  }
+
+  /**
+   * One call: adds at most one message of the bundle, or closes the frame. Call again with the same bundle until it is at its end, or
+   * cancel it.
+   * @param {Octets} bundle
+   * @returns {{ ended: boolean, frame: Uint8Array | null }} a frame that became full: send it
+   */
+  place(bundle) {
+    this.#machine.usable();
+    const octets = octetsOf(bundle, 'a bundle');
+    // The library sees another length than that of the transfer begun, but not other octets.
+    const begun = this.#begun;
+    if (begun !== null && begun.length === octets.length && begun.some((x, k) => x !== octets[k])) {
+      throw new RangeError('not the bundle whose transfer is begun');
+    }
+    const length = Math.min(octets.length, SIZES.bundle + 1);
+    this.#bundle.octets.set(octets.subarray(0, length));
+    const { placed, frame } = this.#call('btpu_place', this.#bundle.pointer, BigInt(length));
+    this.#begun = this.begun ? begun ?? octets.slice() : null;
+    return { ended: placed && !this.begun, frame };
+  }
+
+  /** Gives up the transfer begun, and tells the receivers so. */
+  cancel() {
+    this.#call('btpu_cancel');
+    this.#begun = null;
+  }
+
+  /**
+   * Closes the frame that is being filled.
+   * @returns {Uint8Array | null} the frame, if there was one: send it
+   */
+  flush() {
+    return this.#call('btpu_flush').frame;
+  }
+
+  /** All that a sender is, copied, to be stored. A bundle whose transfer is begun belongs to the caller, and is not in it. */
+  save() {
+    this.#machine.usable();
+    return { image: this.#image.octets.slice(), frame: this.#frame.octets.slice() };
+  }
+
+  /**
+   * Goes on from what a sender of the same frame size saved. An image that is no sound state is refused, and changes nothing.
+   * @param {{ image: Octets, frame: Octets }} saved
+   */
+  restore(saved) {
+    const [image, frame] = partsOf(saved, { image: SIZES.senderImage, frame: this.frameSize });
+    const kept = this.save().image;
+    this.#image.octets.set(image);
+    const returned = this.#machine.call('btpu_sender_check', this.#image.pointer);
+    const size = this.#machine.view.getUint16(this.#image.at);
+    if (returned !== 0 || size !== this.frameSize) {
+      this.#image.octets.set(kept);
+      throw returned !== 0 ? new RefusalError(returned) : new RangeError(`saved with frames of ${size} octets, not ${this.frameSize}`);
+    }
+    this.#frame.octets.set(frame);
+    this.#begun = null;
+  }
+
+  /**
+   * @param {string} name
+   * @param {(number | bigint)[]} bundle
+   */
+  #call(name, ...bundle) {
+    this.#machine.must(name, this.#image.pointer, ...bundle, this.#frame.pointer, BigInt(this.frameSize), this.#machine.resultPointer);
+    const answer = this.#machine.result(0);
+    const ready = answer === PLACED_AND_READY || answer === READY;
+    return { placed: answer === PLACED || answer === PLACED_AND_READY, frame: ready ? this.#frame.octets.slice() : null };
+  }
+}
+
+/** Writes, opens and plays recordings: frames in order, at most 1,024 with at most 61,440 octets. */
+export class Recorder {
+  /** @type {Machine} */ #machine;
+  /** @type {Lent} */ #recording;
+  /** @type {Lent} */ #sizes;
+  /** @type {Lent} */ #pool;
+  /** @type {Lent} */ #output;
+  /** @type {Lent} */ #lengths;
+  /** @type {Lent} */ #places;
+  /** @type {Lent} */ #reasons;
+
+  /**
+   * @param {Source} [source] as for load
+   * @returns {Promise<Recorder>}
+   */
+  static async create(source) {
+    return new Recorder(await instantiate(source));
+  }
+
+  /** @param {WebAssembly.Instance} instance of the module, used by nothing else */
+  constructor(instance) {
+    const machine = this.#machine = new Machine(instance);
+    this.#recording = machine.lend(SIZES.recording + 1);
+    this.#sizes = machine.lend(2 * SIZES.recordedFrames + 2);
+    this.#pool = machine.lend(SIZES.pool);
+    this.#output = machine.lend(SIZES.recordedOctets + 1);
+    this.#lengths = machine.lend(2 * SIZES.playedBundles);
+    this.#places = machine.lend(4 * SIZES.recordedFrames);
+    this.#reasons = machine.lend(4 * SIZES.recordedFrames);
+  }
+
+  /** Whether a trap ended the use of this recorder. */
+  get broken() {
+    return this.#machine.broken;
+  }
+
+  /**
+   * A recording of these frames, in this order.
+   * @param {Iterable<Octets>} frames
+   * @returns {Uint8Array}
+   */
+  record(frames) {
+    const list = [...frames].map((frame) => octetsOf(frame, 'a frame'));
+    const count = Math.min(list.length, SIZES.recordedFrames + 1), octets = this.#output.octets;
+    let total = 0;
+    list.slice(0, count).forEach((frame, k) => {
+      // What is left out is beyond the limits, and refused for that.
+      this.#machine.view.setUint16(this.#sizes.at + 2 * k, Math.min(frame.length, 0xffff), true);
+      const part = frame.subarray(0, octets.length - total);
+      octets.set(part, total);
+      total += part.length;
+    });
+    this.#machine.must('btpu_record', this.#sizes.pointer, BigInt(count), this.#output.pointer, BigInt(total),
+      this.#recording.pointer, BigInt(SIZES.recording), this.#machine.resultPointer);
+    return this.#recording.octets.slice(0, this.#machine.result(0));
+  }
+
+  /**
+   * The frames of a recording, which is checked as a whole.
+   * @param {Octets} recording
+   * @returns {Uint8Array[]}
+   */
+  open(recording) {
+    const length = this.#take(recording);
+    this.#machine.must('btpu_recording_open', this.#recording.pointer, BigInt(length), this.#sizes.pointer, this.#machine.resultPointer);
+    const [frames, octets, start] = [0, 1, 2].map((entry) => this.#machine.result(entry));
+    return cut(this.#recording.octets.subarray(start, start + octets), this.#list(this.#sizes, 2, frames));
+  }
+
+  /**
+   * Plays a recording on a fresh receiver until `messages` messages are treated, or to its end. A run of padding counts as one
+   * message; a refused frame has none.
+   * @param {Octets} recording
+   * @param {{ messages?: number }} [limit]
+   * @returns {import('./btpu.mjs').Playback}
+   */
+  play(recording, limit = {}) {
+    const { messages = Infinity } = limit;
+    if (messages !== Infinity) wholeNumber(messages, Number.MAX_SAFE_INTEGER, 'a number of messages');
+    const length = this.#take(recording), machine = this.#machine;
+    const most = messages === Infinity ? 2n ** 64n - 1n : BigInt(messages);
+    machine.must('btpu_play', this.#recording.pointer, BigInt(length), most, this.#pool.pointer, BigInt(SIZES.pool),
+      this.#output.pointer, BigInt(SIZES.recordedOctets), this.#lengths.pointer, BigInt(SIZES.playedBundles),
+      this.#places.pointer, BigInt(SIZES.recordedFrames), this.#reasons.pointer, BigInt(SIZES.recordedFrames), machine.resultPointer);
+    const places = this.#list(this.#places, 4, machine.result(3)), reasons = this.#list(this.#reasons, 4, machine.result(3));
+    return {
+      messages: machine.result(0),
+      bundles: cut(this.#output.octets, this.#list(this.#lengths, 2, machine.result(1))),
+      refused: places.map((frame, k) => ({ frame, number: reasons[k], words: words(reasons[k]) })),
+    };
+  }
+
+  /** @param {Octets} recording */
+  #take(recording) {
+    this.#machine.usable();
+    const octets = octetsOf(recording, 'a recording');
+    // One octet more than a recording may have is enough for the library to refuse it.
+    const length = Math.min(octets.length, SIZES.recording + 1);
+    this.#recording.octets.set(octets.subarray(0, length));
+    return length;
+  }
+
+  /**
+   * The first entries of a list.
+   * @param {Lent} lent
+   * @param {2 | 4} octets of an entry
+   * @param {number} count
+   */
+  #list(lent, octets, count) {
+    const view = this.#machine.view;
+    const entry = (/** @type {number} */ at) => (octets === 2 ? view.getUint16(at, true) : view.getUint32(at, true));
+    return Array.from({ length: count }, (_, k) => entry(lent.at + octets * k));
+  }
+}

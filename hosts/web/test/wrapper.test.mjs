@@ -1,0 +1,327 @@
+// The wrapper in node: what it answers, what it refuses, and what it does after a trap.
+import assert from 'node:assert/strict';
+import { execFileSync } from 'node:child_process';
+import fs from 'node:fs';
+import path from 'node:path';
+import test from 'node:test';
+import { Receiver, Recorder, RefusalError, Sender, SIZES, TrapError, hasMemory64, load, readWindow, words } from '../btpu.mjs';
+import { overLink } from '../frames.mjs';
+import { NOTHING, contentOf, showing, tableOf } from '../timetable.mjs';
+import { cancel, chain, message, octets, piece, repository, sample, web } from './common.mjs';
+import { withStack } from './starve.mjs';
+
+const text = (s) => new TextEncoder().encode(s);
+const file = (name) => fs.readFileSync(path.join(web, name));
+const refusal = (number) => (e) => e instanceof RefusalError && e.number === number;
+const frame = (...messages) => Uint8Array.from(messages.flat());
+const hex = (u) => Buffer.from(u).toString('hex');
+
+for (const name of ['btpu.wasm', 'btpu-plain.wasm', 'btpu64.wasm']) {
+  test(name, { skip: name === 'btpu64.wasm' && !hasMemory64() && 'this node has no memory64' }, async (t) => {
+    const module = await load(file(name));
+    await receiving(t, module, name);
+    await sending(t, module);
+    await recording(t, module);
+  });
+}
+
+async function receiving(t, module, name) {
+  const receiver = () => Receiver.create(module);
+
+  await t.test('the marked cases of document 01, as corrected by request E2', async () => {
+    const answer = async (...frames) => {
+      const r = await receiver();
+      return frames.map((f) => r.receive(octets(f))).map((a) => [a.bundles.map((b) => [b.number, hex(b.octets)]), a.refusal && [a.refusal.number, a.refusal.place]]);
+    };
+    assert.deepEqual(await answer('02 00 00 03 41 42 43'), [[[[null, '414243']], null]]);
+    assert.deepEqual(await answer('00 00 00'), [[[], null]]);
+    assert.deepEqual(await answer('01 00 00 00'), [[[], null]]);
+    assert.deepEqual(await answer('04 00 00 09 00 00 00 05 00 00 00 00 41'), [[[[5, '41']], null]]);
+    assert.deepEqual(await answer('05 00 00 04 00 00 00 05', '04 00 00 09 00 00 00 05 00 00 00 00 41'), [[[], null], [[], null]]);
+    assert.deepEqual(await answer('02 80 00 05 02 01 FF 41 42'), [[[[null, '4142']], null]]);
+    assert.deepEqual(await answer('02 10 00 00'), [[[[null, '']], null]]);
+    assert.deepEqual(await answer('00 02 00 00 00'), [[[[null, '']], null]]);
+    for (const [bad, number] of [['02 00 00 04 41', 6], ['03 00 00', 4], ['02 80 00 01 02', 7], ['05 00 00 03 00 00 00', 8]]) {
+      assert.deepEqual(await answer(bad), [[[], [number, 0]]]);
+      assert.deepEqual(await answer(`00 ${bad}`), [[[], [number, 1]]]);
+    }
+  });
+
+  await t.test('a bundle handed out belongs to the caller', async () => {
+    const r = await receiver(), two = octets('02 00 00 01 41 02 00 00 01 42'), { bundles } = r.receive(two);
+    bundles[0].octets[0] = 9;
+    r.receive(octets('02 00 00 01 43'));
+    assert.deepEqual(bundles.map((b) => b.octets[0]), [9, 0x42]);
+    assert.deepEqual(r.receive(two).bundles.map((b) => b.octets[0]), [0x41, 0x42]);
+  });
+
+  await t.test('512 bundles in one frame, and the longest chain of hints', async () => {
+    const r = await receiver();
+    assert.equal(r.receive(frame(...Array(512).fill(message(2, 0, [])))).bundles.length, 512);
+    assert.deepEqual(r.receive(frame(message(2, 128, chain(1022)))).bundles.map((b) => b.octets.length), [0]);
+  });
+
+  await t.test('empty and too long frames are refused with 3', async () => {
+    const r = await receiver();
+    for (const length of [0, 2049, 100000]) assert.deepEqual(r.receive(new Uint8Array(length)).refusal, { number: 3, place: null, words: words(3) });
+    assert.equal(r.receive(new Uint8Array(2048)).refusal, null);
+  });
+
+  await t.test('any view and ArrayBuffer is a frame, and nothing else', async () => {
+    const r = await receiver(), f = octets('02 00 00 01 41');
+    for (const view of [f, f.buffer, new DataView(f.buffer), Buffer.from(f)]) assert.equal(r.receive(view).bundles.length, 1);
+    for (const other of [undefined, null, 'abc', 5, [2, 0, 0, 0], {}]) assert.throws(() => r.receive(other), TypeError);
+  });
+
+  await t.test('saved in mid-transfer, restored in another receiver', async () => {
+    const s = await Sender.create({ frameSize: 128, firstNumber: 77 }, module);
+    const [first, ...rest] = [...s.send(text('x'.repeat(500))), s.flush()], a = await receiver(), b = await receiver();
+    a.receive(first);
+    const saved = a.save();
+    a.receive(rest[0]); // what goes on in a does not change what was saved
+    b.restore(saved);
+    assert.deepEqual(b.save(), saved);
+    assert.deepEqual(b.window().rows[77 % 16].pieces, [{ index: 0, length: 116 }]);
+    assert.deepEqual(rest.flatMap((f) => b.receive(f).bundles).map((x) => [x.number, x.octets.length]), [[77, 500]]);
+  });
+
+  await t.test('what is not sound is not restored, and changes nothing', async () => {
+    const r = await receiver(), row = 8 + 196 * 5;
+    r.receive(frame(piece(false, 5, 1, [1, 2, 3])));
+    const before = r.save();
+    for (const [at, octet] of [[0, 2], [row + 3, 0], [row, 9], [3000, 1]]) {
+      const other = r.save();
+      other.image[at] = octet;
+      other.pool.fill(7);
+      assert.throws(() => r.restore(other), refusal(1));
+      assert.deepEqual(r.save(), before);
+    }
+    for (const wrong of [{ ...before, image: new Uint8Array(5) }, { ...before, pool: new Uint8Array(5) }]) assert.throws(() => r.restore(wrong), RangeError);
+    for (const wrong of [null, undefined, 5, {}, { image: 'a', pool: 'b' }]) assert.throws(() => r.restore(wrong), TypeError);
+    assert.deepEqual(r.save(), before);
+  });
+
+  await t.test('the window as rows', async () => {
+    const r = await receiver();
+    assert.equal(r.window().greatest, null);
+    assert.ok(r.window().rows.every((row) => row.number === null && row.phase === 'free'));
+    r.receive(frame(piece(false, 20, 0, [1, 2]), piece(true, 20, 3, [3]), cancel(19), piece(false, 18, 64, []), piece(true, 17, 0, [9])));
+    const { greatest, rows } = r.window();
+    assert.equal(greatest, 20);
+    assert.deepEqual([4, 3, 2, 1, 0].map((k) => [rows[k].number, rows[k].phase]), [[20, 'open'], [19, 'cancelled'], [18, 'given up'], [17, 'done'], [16, 'free']]);
+    assert.deepEqual(rows[4], { row: 4, number: 20, phase: 'open', last: 3, pieces: [{ index: 0, length: 2 }, { index: 3, length: 1 }] });
+    assert.equal(rows[5].number, 5);
+    assert.throws(() => readWindow(new Uint8Array(3)), RangeError);
+  });
+
+  await t.test('restart forgets', async () => {
+    const r = await receiver(), whole = frame(piece(true, 5, 0, [1]));
+    assert.deepEqual([1, 2].map(() => r.receive(whole).bundles.length), [1, 0]);
+    r.restart();
+    assert.equal(r.receive(whole).bundles.length, 1);
+    assert.ok((await receiver()).save().pool.every((octet) => octet === 0));
+  });
+
+  await t.test('a trap ends the use of a receiver, and a new one goes on from what was saved', async () => {
+    const starved = await load(withStack(file(name), 24000)), r = await Receiver.create(starved);
+    r.receive(frame(piece(false, 5, 0, [1, 2, 3])));
+    const saved = r.save(), long = frame(message(2, 0, [65]), message(2, 128, chain(1000)));
+    assert.throws(() => r.receive(long), TrapError);
+    assert.equal(r.broken, true);
+    for (const use of [() => r.receive(new Uint8Array(1)), () => r.save(), () => r.restore(saved), () => r.restart(), () => r.window()]) assert.throws(use, TrapError);
+    const next = await Receiver.create(starved);
+    next.restore(saved);
+    assert.deepEqual(next.receive(frame(piece(true, 5, 1, [4]))).bundles.map((b) => [b.number, [...b.octets]]), [[5, [1, 2, 3, 4]]]);
+    assert.equal((await receiver()).receive(long).bundles.length, 2); // with its own stack the module takes it
+  });
+}
+
+async function sending(t, module) {
+  const sender = (frameSize, firstNumber) => Sender.create({ frameSize, firstNumber }, module);
+
+  await t.test('300 octets in frames of 128 are pieces of 116, 116 and 68', async () => {
+    const s = await sender(128, 9);
+    assert.deepEqual(s.send(new Uint8Array(300).fill(7)).map((f) => f.length), [128, 128]);
+    assert.deepEqual([s.fill, s.nextNumber, s.begun, s.frameSize], [80, 10, false, 128]);
+    assert.equal(s.send(new Uint8Array(44)).length, 1);
+    assert.equal(s.fill, 0);
+    assert.equal(s.flush(), null);
+  });
+
+  await t.test('what is sent arrives, over frames that come twice and in another order', async () => {
+    const s = await sender(256, 0xfffffffe), r = await Receiver.create(module);
+    const sent = [text('a notice'), ...[300, 4096, 900, 1].map((n) => Uint8Array.from({ length: n }, (_, k) => k * 7 + n))];
+    const frames = [...sent.flatMap((b) => s.send(b)), s.flush()];
+    const got = overLink([...frames, ...frames], { seed: 3, lose: 0, double: 20, shuffle: 5, damage: 0 }).flatMap((a) => r.receive(a.frame).bundles);
+    assert.deepEqual(got.map((b) => b.number).filter((n) => n !== null).sort((a, b) => a - b), [0, 0xfffffffe, 0xffffffff]);
+    for (const b of sent) assert.ok(got.some((g) => hex(g.octets) === hex(b)));
+  });
+
+  await t.test('what a sender refuses', async () => {
+    for (const size of [0, 127, 2049, 65536 + 128, 2 ** 32 + 128]) await assert.rejects(sender(size, 0), refusal(14));
+    for (const size of [-1, 1.5, NaN, '128', 2 ** 60, undefined]) await assert.rejects(sender(size, 0), RangeError);
+    for (const number of [-1, 2 ** 32, 0.5, undefined]) await assert.rejects(sender(128, number), RangeError);
+    const s = await sender(128, 0), bundle = new Uint8Array(300).fill(1);
+    assert.throws(() => s.cancel(), refusal(13));
+    for (const length of [0, 4097, 100000]) assert.throws(() => s.send(new Uint8Array(length)), refusal(11));
+    assert.throws(() => s.send('text'), TypeError);
+    assert.equal(s.place(bundle).ended, false);
+    assert.throws(() => s.place(bundle.subarray(1)), refusal(12));
+    assert.throws(() => s.place(new Uint8Array(300).fill(2)), RangeError); // which the library can't see
+    assert.equal(s.send(bundle).length, 1);
+    assert.equal(s.begun, false);
+  });
+
+  await t.test('a transfer that is cancelled, and the next one', async () => {
+    const s = await sender(128, 3), r = await Receiver.create(module);
+    const [one, two] = [s.place(new Uint8Array(300)), s.place(new Uint8Array(300))];
+    s.cancel();
+    assert.equal(s.begun, false);
+    const frames = [one.frame, two.frame, ...s.send(new Uint8Array(300).fill(8)), s.flush()];
+    assert.deepEqual(frames.flatMap((f) => r.receive(f).bundles).map((b) => [b.number, b.octets[0]]), [[4, 8]]);
+    assert.equal(r.window().rows[3].phase, 'cancelled');
+  });
+
+  await t.test('saved in mid-transfer, restored in another sender', async () => {
+    const bundle = Uint8Array.from({ length: 700 }, (_, k) => k), a = await sender(200, 50), b = await sender(200, 0), r = await Receiver.create(module);
+    const before = [...a.send(text('first')), a.place(bundle).frame];
+    const saved = a.save();
+    b.restore(saved);
+    assert.deepEqual(b.save(), saved);
+    assert.throws(() => b.place(new Uint8Array(600)), refusal(12));
+    const frames = [...before.filter((f) => f !== null), ...b.send(bundle), b.flush()];
+    assert.deepEqual(frames.flatMap((f) => r.receive(f).bundles).map((x) => x.octets.length), [5, 700]);
+    assert.throws(() => b.restore({ ...saved, image: saved.image.map((x, k) => (k === 9 ? 1 : x)) }), refusal(1));
+    const other = await sender(300, 0), kept = other.save();
+    assert.throws(() => other.restore(saved), RangeError);
+    assert.throws(() => other.restore({ ...saved, frame: new Uint8Array(300) }), RangeError);
+    assert.deepEqual(other.save(), kept);
+  });
+}
+
+async function recording(t, module) {
+  const recorder = () => Recorder.create(module);
+
+  await t.test('recorded frames open and play as they were received', async () => {
+    const r = await recorder(), receiver = await Receiver.create(module), frames = [...sample, octets('02 00 00 09'), octets('02 00 00 01 41')];
+    const recording = r.record(frames);
+    assert.deepEqual(r.open(recording), frames);
+    const answers = frames.map((f) => receiver.receive(f)), played = r.play(recording);
+    assert.deepEqual(played.bundles, answers.flatMap((a) => a.bundles).map((b) => b.octets));
+    assert.deepEqual(played.refused, answers.flatMap((a, frame) => (a.refusal ? [{ frame, number: a.refusal.number, words: a.refusal.words }] : [])));
+    assert.equal(played.refused.at(-1).frame, sample.length);
+    assert.deepEqual(r.play(recording, { messages: played.messages }), played);
+    assert.deepEqual(r.play(recording, { messages: 0 }), { messages: 0, bundles: [], refused: [] });
+    for (const messages of [-1, 1.5, '3', null]) assert.throws(() => r.play(recording, { messages }), RangeError);
+  });
+
+  await t.test('what is no recording is refused', async () => {
+    const r = await recorder(), good = r.record([octets('02 00 00 01 41')]), turned = (at, octet) => good.map((x, k) => (k === at ? octet : x));
+    for (const call of [(x) => r.open(x), (x) => r.play(x)]) {
+      assert.throws(() => call(good.subarray(0, good.length - 1)), refusal(16));
+      assert.throws(() => call(turned(2, 5)), refusal(17));
+      assert.throws(() => call(turned(4, 9)), refusal(18));
+      assert.throws(() => call(turned(9, 4)), refusal(19));
+      for (const more of [1, 100000]) assert.throws(() => call(Uint8Array.from([...good, ...new Uint8Array(more)])), refusal(20));
+      assert.throws(() => call('recording'), TypeError);
+    }
+  });
+
+  await t.test('the limits of a recording', async () => {
+    const r = await recorder(), one = (length) => new Uint8Array(length);
+    assert.deepEqual(r.open(r.record([])), []);
+    assert.equal(r.open(r.record(Array(1024).fill(one(60)))).length, 1024);
+    assert.equal(r.record(Array(30).fill(one(2048))).length, 61440 + 68);
+    assert.throws(() => r.record(Array(1025).fill(one(1))), refusal(17));
+    assert.throws(() => r.record([...Array(30).fill(one(2048)), one(1)]), refusal(17));
+    for (const length of [0, 2049]) assert.throws(() => r.record([one(length)]), refusal(18));
+    assert.throws(() => r.record([one(70000)]), refusal(17));
+    for (const wrong of [['frame'], [[1, 2]], 5]) assert.throws(() => r.record(wrong), TypeError);
+  });
+}
+
+test('load refuses what is no btpu module', async () => {
+  await assert.rejects(load(Uint8Array.of(0, 97, 115, 109, 1, 0, 0, 0)), TypeError);
+  await assert.rejects(load(Uint8Array.of(1, 2, 3)), WebAssembly.CompileError);
+  await assert.rejects(load(new Response('', { status: 404 })), /404/);
+  assert.ok((await load(new Response(file('btpu.wasm')))) instanceof WebAssembly.Module);
+  assert.ok((await load()) instanceof WebAssembly.Module);
+});
+
+test('an engine that runs out of its own stack in a call ends the use of the receiver', async () => {
+  const r = await Receiver.create(), long = frame(message(2, 128, chain(1022)));
+  let trapped = 0;
+  const deep = () => {
+    try {
+      deep();
+    } catch (e) {
+      if (!(e instanceof RangeError)) throw e;
+    }
+    if (trapped > 0) return;
+    try {
+      r.receive(long);
+    } catch (e) {
+      if (e instanceof TrapError) trapped++;
+    }
+  };
+  deep();
+  if (trapped > 0) assert.throws(() => r.receive(long), TrapError);
+});
+
+test('sizes and words are those of the C header and of the Rust crate', () => {
+  const header = fs.readFileSync(path.join(repository, 'include/btpu.h'), 'utf8');
+  const defined = (name) => Number(new RegExp(`#define ${name} (\\d+)`).exec(header)[1]);
+  const names = {
+    receiverImage: 'BTPU_RECEIVER_IMAGE', senderImage: 'BTPU_SENDER_IMAGE', pool: 'BTPU_POOL', output: 'BTPU_MIN_OUTPUT', bundle: 'BTPU_MAX_BUNDLE',
+    frame: 'BTPU_MAX_FRAME', recording: 'BTPU_MAX_RECORDING', recordedFrames: 'BTPU_RECORDED_FRAMES', recordedOctets: 'BTPU_RECORDED_OCTETS',
+    playedBundles: 'BTPU_PLAYED_BUNDLES',
+  };
+  assert.deepEqual({ ...SIZES }, Object.fromEntries(Object.entries(names).map(([name, define]) => [name, defined(define)])));
+  const crate = fs.readFileSync(path.join(repository, 'hosts/rust/src/refusal.rs'), 'utf8');
+  const numbers = [...header.matchAll(/#define BTPU_REFUSED_\w+ (\d+)/g)].map((m) => Number(m[1]));
+  assert.equal(numbers.length, 20);
+  for (const number of numbers) assert.ok(crate.includes(`"${words(number)}"`), words(number));
+});
+
+test('the types name what the module has, and nothing else', async () => {
+  const types = fs.readFileSync(path.join(web, 'btpu.d.mts'), 'utf8'), module = await import('../btpu.mjs');
+  assert.deepEqual([...types.matchAll(/^export (?:class|function|const) (\w+)/gm)].map((m) => m[1]).sort(), Object.keys(module).sort());
+  for (const [, name, body] of types.matchAll(/^export class (\w+)(?: extends Error)? \{\n([^]*?)\n\}/gm)) {
+    const members = [...body.matchAll(/^ {2}(static |get )?(\w+)\(/gm)].map((m) => `${m[1] ?? ''}${m[2]}`);
+    const own = (of, kind) => Object.entries(Object.getOwnPropertyDescriptors(of)).filter(([, d]) => typeof (d.value ?? d.get) === 'function').map(([key, d]) => `${d.get ? 'get ' : kind}${key}`);
+    assert.deepEqual(members.sort(), [...own(module[name], 'static '), ...own(module[name].prototype, '')].sort());
+  }
+});
+
+test('timetables and notices', () => {
+  const table = contentOf(text('Timetable: Mill Bridge\nEdition: 3\n8:05 Line R4 Platform 2 Upper Valley via Weir / Quarry, +5 min, late\n07:12 Stop 4 Mill Bridge - Old Town - Harbour, school days\nMind the gap\n'));
+  assert.deepEqual(table, {
+    kind: 'timetable',
+    station: 'Mill Bridge',
+    edition: 3,
+    departures: [
+      { time: '07:12', line: '', platform: '4', to: 'Harbour', via: 'Old Town', remark: 'school days' },
+      { time: '08:05', line: 'R4', platform: '2', to: 'Upper Valley', via: 'Weir / Quarry', remark: '+5 min, late' },
+    ],
+    notes: ['Mind the gap'],
+  });
+  assert.deepEqual(contentOf(text('Line 4: no service on public holidays.\n')), { kind: 'notice', text: 'Line 4: no service on public holidays.' });
+  for (const none of [new Uint8Array(0), text(' \n'), Uint8Array.of(0, 255, 3), text('a\u0001b')]) assert.equal(contentOf(none), null);
+});
+
+test('what a board shows: editions, notices, and no more than it keeps', () => {
+  const show = (shown, s) => showing(shown, text(s));
+  const first = show(NOTHING, 'Timetable: __proto__\nEdition: 2\n07:00 A'), second = show(first, 'Timetable: Weir\n07:00 B');
+  assert.equal(tableOf(second, '').station, 'Weir');
+  assert.equal(tableOf(second, '__proto__').edition, 2);
+  assert.equal(show(second, 'Timetable: __proto__\nEdition: 1\n07:00 A'), second);
+  assert.deepEqual(show(second, 'Timetable: __proto__\nEdition: 2\n09:00 A').timetables.map((x) => x.station), ['Weir', '__proto__']);
+  assert.deepEqual(show(show(show(NOTHING, 'one'), 'two'), 'one').notices, ['two', 'one']);
+  const many = Array.from({ length: 150 }, (_, k) => k).reduce((shown, k) => show(show(shown, `notice ${k}`), `Timetable: ${k}\n07:00 A`), NOTHING);
+  assert.deepEqual([many.timetables.length, many.notices.length, many.notices.at(-1)], [100, 20, 'notice 149']);
+});
+
+test('three lines are enough in node', () => {
+  const lines = "import { Receiver } from './btpu.mjs';\nconst receiver = await Receiver.create();\nconst { bundles } = receiver.receive(Uint8Array.of(2, 0, 0, 2, 104, 105));\nprocess.stdout.write(bundles[0].octets);";
+  assert.equal(execFileSync(process.execPath, ['--input-type=module', '-e', lines], { cwd: web }).toString(), 'hi');
+});
