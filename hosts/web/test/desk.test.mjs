@@ -1,0 +1,542 @@
+// The desk page in headless Chromium, held to the native library. SCREENSHOTS=FOLDER writes FOLDER/desk.png and FOLDER/desk-night.png.
+import assert from 'node:assert/strict';
+import fs from 'node:fs';
+import path from 'node:path';
+import test, { after, before, beforeEach } from 'node:test';
+import { Recorder, Sender } from '../btpu.mjs';
+import { hexOf, overLink, writeHex } from '../frames.mjs';
+import { NOTHING, departuresFrom, showing, tableOf } from '../timetable.mjs';
+import { chromium, serve } from './chromium.mjs';
+import { chain, leastContrast, message, natively, octets, sample, temporary, unnamed, web } from './common.mjs';
+import { withStack } from './starve.mjs';
+
+const GOOD = { seed: 1, lose: 0, double: 0, shuffle: 0, damage: 0 };
+const BAD = { seed: 133, lose: 30, double: 12, shuffle: 12, damage: 14 };
+const LARGE = { width: 1500, height: 1320 };
+const pictures = process.env.SCREENSHOTS;
+
+let site, browser, page, recorder;
+before(async () => {
+  recorder = await Recorder.create();
+  site = await serve({ '/': web });
+  browser = await chromium();
+  page = await browser.page(`${site.address}/desk.html`, LARGE);
+  await page.until('document.body.dataset.ready');
+});
+// No limit and a good link, from the next frames on that are loaded.
+beforeEach(() => set({ ...GOOD, limit: '' }));
+after(async () => {
+  await browser?.close();
+  site?.close();
+});
+
+// ---- what is done to the page
+
+/** Gives values to controls, without telling the page. */
+const set = (values) => page.evaluate(`for (const [id, value] of Object.entries(${JSON.stringify(values)})) {
+  document.getElementById(id).value = value;
+}`);
+const click = (id) => page.evaluate(`document.getElementById('${id}').click()`);
+const idle = () => page.until(`document.body.dataset.busy === 'no'`);
+const wait = (ms) => page.evaluate(`new Promise((done) => setTimeout(done, ${ms}))`);
+const textOf = (id) => page.evaluate(`document.getElementById('${id}').textContent`);
+const status = () => textOf('status');
+const says = (words) => page.until(`${words}.test(document.getElementById('status').textContent)`);
+const blur = () => page.evaluate('document.activeElement.blur()');
+
+/** Gives a value to a control and tells the page so. */
+const put = async (id, value, event) => {
+  await set({ [id]: value });
+  await page.evaluate(`document.getElementById('${id}').dispatchEvent(new Event('${event}'))`);
+  await idle();
+};
+const toTheEnd = async () => {
+  await click('end');
+  await idle();
+};
+const seek = (place) => put('seek', place, 'input');
+const useLink = async (link) => {
+  await set(link);
+  await put('seed', link.seed, 'input');
+};
+/** Takes lines by the field for pasting. */
+const paste = async (lines) => {
+  await set({ lines: lines.join('\n') });
+  await click('paste');
+  await page.until(`document.querySelectorAll('#strip .f').length === ${lines.length}`);
+};
+
+/** Gives the page a file, and waits until it was read. */
+async function open(name, content) {
+  const file = path.join(temporary, name);
+  fs.writeFileSync(file, content);
+  // Not asked to load the same file twice: the page would not hear of it.
+  await page.evaluate(`document.getElementById('file').value = ''; document.body.dataset.busy = 'asked'`);
+  await page.files('#file', [file]);
+  await idle();
+}
+
+/** The sample over a link, at its start. */
+async function begin(link) {
+  await open('sample.hex', writeHex(sample));
+  await useLink(link);
+  return overLink(sample, link);
+}
+
+// ---- what the page shows
+
+const SHOWN = `(() => {
+  const all = (selector) => [...document.querySelectorAll(selector)];
+  const text = (id) => document.getElementById(id).textContent;
+  const list = (id) => all('#' + id + ' > li').reverse().map((li) => ({ ...li.dataset }));
+  const places = (row, kind) => [...row.querySelectorAll('.p')].flatMap((cell, k) => (cell.classList.contains(kind) ? [k] : []));
+  const row = (tr) => ({ row: +tr.cells[0].textContent, number: tr.cells[1].textContent, phase: tr.cells[2].textContent,
+    octets: tr.cells[4].textContent.replaceAll(',', ''), here: places(tr, 'have'), missing: places(tr, 'miss'), last: places(tr, 'last') });
+  return {
+    bundles: list('bundles'), refused: list('refused'), rows: all('#window tbody tr').map(row),
+    labels: all('#window tbody [role=img]').map((cells) => cells.getAttribute('aria-label')),
+    fresh: all('#window .p.new').length, heads: [text('n-bundles'), text('n-refused')],
+    fates: all('#strip .f').map((cell) => ['taken', 'refused', 'lost'].find((fate) => cell.classList.contains(fate)) ?? ''),
+    now: all('#strip .f').findIndex((cell) => cell.classList.contains('now')),
+    departures: all('#departures tbody tr').map((tr) => [...tr.cells].map((td) => td.firstChild?.textContent ?? '')),
+    notices: all('#notices li').map((li) => li.textContent), later: text('later'), place: text('place'), status: text('status'),
+    seek: +document.getElementById('seek').value, counts: all('#counts dd').map((dd) => +dd.textContent.replaceAll(',', '')),
+  };
+})()`;
+const shown = () => page.evaluate(SHOWN);
+
+/** The rows of the window as the page shows them, from the native state. */
+const rowsOf = (rows) => rows.map(({ row, number, phase, last, pieces }) => {
+  const open = phase === 'open', here = open ? pieces.map((p) => p.index).sort((a, b) => a - b) : [];
+  const length = open ? (last ?? Math.max(-1, ...here)) + 1 : 0;
+  return {
+    row, number: number === null ? '–' : `${number}`, phase,
+    octets: open ? `${pieces.reduce((sum, p) => sum + p.length, 0)}` : '',
+    here, missing: Array.from({ length }, (_, k) => k).filter((k) => !here.includes(k)), last: open && last !== null ? [last] : [],
+  };
+});
+
+/** What a board shows of bundles, for a station from a time on. */
+function boardOf(bundles, station, time) {
+  const all = bundles.reduce((before, bundle) => showing(before, octets(bundle.octets)), NOTHING);
+  const departures = departuresFrom(tableOf(all, station), time).slice(0, 6);
+  return {
+    departures: departures.map((d) => [d.time, d.line, d.to, d.platform, d.remark]),
+    notices: all.notices.slice(-3).reverse(),
+  };
+}
+
+/** Holds what the page shows to what the native library makes of the arrivals up to a place. */
+async function hold(arrivals, place = arrivals.length, { station = '', time = '06:00' } = {}) {
+  const is = await shown(), came = [...arrivals.keys()].filter((k) => k < place && !arrivals[k].lost);
+  const { bundles, refused, rows } = natively(came.map((k) => arrivals[k].frame)), bad = refused.map((r) => came[r.frame]);
+  assert.deepEqual(is.bundles, bundles.map((b) => ({ number: b.number, octets: b.octets, frame: `${came[b.frame]}` })));
+  assert.deepEqual(is.refused, refused.map((r) => ({ number: r.number, place: r.place, frame: `${came[r.frame]}` })));
+  assert.deepEqual(is.rows, rowsOf(rows));
+  assert.deepEqual(is.fates, arrivals.map((a, k) => (k >= place ? '' : a.lost ? 'lost' : bad.includes(k) ? 'refused' : 'taken')));
+  assert.deepEqual({ departures: is.departures, notices: is.notices }, boardOf(bundles, station, time));
+  const lost = arrivals.slice(0, place).filter((a) => a.lost).length;
+  assert.deepEqual(is.heads, [`${bundles.length}`, `${refused.length}${lost > 0 ? `, and ${lost} lost on the link` : ''}`]);
+  assert.deepEqual([is.seek, is.now], [place, place - 1]);
+  assert.ok(is.place.startsWith(`Frame ${place} of ${arrivals.length}, `), is.place);
+  return is;
+}
+
+/** The frames of a night: the sample's bundles sent again and again over a bad link, as many as a recording holds; some are cut short. */
+async function night() {
+  const sender = await Sender.create({ frameSize: 128, firstNumber: 700 }), { bundles } = natively(sample), came = [];
+  const sent = Array.from({ length: 8 }, () => bundles.flatMap((bundle) => sender.send(octets(bundle.octets)))).flat();
+  let total = 0;
+  for (const { frame, lost } of overLink(sent, { seed: 21, lose: 9, double: 4, shuffle: 14, damage: 0 })) {
+    if (lost || total + frame.length > 61440) continue;
+    came.push(came.length % 53 === 40 ? frame.slice(0, 90) : frame);
+    total += frame.length;
+  }
+  return came;
+}
+
+// ---- tests
+
+test('loads', async () => {
+  assert.equal(await page.evaluate('document.body.dataset.ready'), 'yes', await status());
+  assert.match(await status(), /Choose a file/);
+});
+
+test('a file of hex lines, with the lines named that are left out', async () => {
+  await open('faults.hex', `# sample\n${writeHex(sample)}zz\n123\n`);
+  const faults = await page.evaluate(`[...document.querySelectorAll('#faults li')].map((li) => li.textContent)`);
+  assert.deepEqual(faults, [`Line ${sample.length + 2} left out: not hex`, `Line ${sample.length + 3} left out: half an octet is missing`]);
+  assert.match(await status(), new RegExp(`^${sample.length} frames ready`));
+  await toTheEnd();
+  await hold(overLink(sample, GOOD));
+});
+
+test('a good link and bad links show what the native library makes of the frames', async () => {
+  const worse = { seed: 5, lose: 22, double: 12, shuffle: 9, damage: 12 }, worst = { seed: 7, lose: 5, double: 60, shuffle: 40, damage: 40 };
+  for (const link of [GOOD, { ...GOOD, seed: 6, lose: 40 }, worse, worst]) {
+    const arrivals = await begin(link);
+    await toTheEnd();
+    const { counts } = await hold(arrivals);
+    assert.deepEqual(counts.slice(0, 3), [sample.length, arrivals.filter((a) => a.lost).length, arrivals.filter((a) => a.copy).length]);
+  }
+});
+
+test('stepping by the arrow keys; what came with a frame; going back by key, strip and seek bar', async () => {
+  const arrivals = await begin(BAD), stops = [0];
+  arrivals.forEach((a, k) => a.lost || stops.push(k + 1));
+  await blur();
+  for (let n = 0; n < 70; n++) await page.key('ArrowRight');
+  const is = await hold(arrivals, stops[70]);
+  assert.ok(is.labels.some((label) => /^\d+ pieces? here.*; missing \d/.test(label)), is.labels.join('\n'));
+  for (let n = 69; n > 60; n--) await page.key('ArrowLeft');
+  await hold(arrivals, stops[61]);
+  for (const place of [33, 34, 120, 2, 90]) {
+    await page.evaluate(`document.querySelectorAll('#strip .f')[${place - 1}].click()`);
+    await idle();
+    await hold(arrivals, place);
+  }
+  for (const place of [100, 12, arrivals.length, 0, 1, 57]) {
+    await seek(place);
+    await hold(arrivals, place);
+  }
+  await page.evaluate(`document.getElementById('seek').focus()`);
+  await page.key('ArrowLeft');
+  await hold(arrivals, 56);
+});
+
+test('the pieces that came with the frame are marked', async () => {
+  const arrivals = await begin(GOOD);
+  const held = (frames) => natively(frames).rows.flatMap((r) => (r.phase === 'open' ? r.pieces.map((p) => `${r.number} ${p.index}`) : []));
+  for (const place of [1, 2, 9, 30]) {
+    await seek(place);
+    const frames = arrivals.slice(0, place).map((a) => a.frame), before = held(frames.slice(0, -1));
+    assert.equal((await shown()).fresh, held(frames).filter((piece) => !before.includes(piece)).length);
+  }
+});
+
+test('the board panel: what it showed then, for a station, from a time on', async () => {
+  const arrivals = await begin(GOOD), { bundles } = natively(sample);
+  await toTheEnd();
+  const mill = bundles.filter((b) => /^Timetable: Mill Bridge/.test(Buffer.from(b.octets, 'hex').toString()));
+  assert.notEqual(mill[0].octets, mill.at(-1).octets);
+  await put('station', 'Mill Bridge', 'change');
+  await put('time', '07:30', 'input');
+  for (const place of [arrivals.length, mill[0].frame, mill[0].frame + 1, mill.at(-1).frame, arrivals.length]) {
+    await seek(place);
+    const is = await hold(arrivals, place, { station: 'Mill Bridge', time: '07:30' });
+    assert.equal(is.departures.length === 0, place === mill[0].frame);
+    assert.match(is.later, place === mill[0].frame ? /No timetable/ : /Mill Bridge, edition \d/);
+  }
+  await put('time', '7 o', 'input');
+  assert.equal((await shown()).departures[0][0] >= '07:30', true);
+  assert.equal(await page.evaluate(`document.getElementById('time').getAttribute('aria-invalid')`), 'true');
+  await put('time', '06:00', 'input');
+  await put('station', '', 'change');
+});
+
+test('play by the space bar at a pace, pause, and on to the end', async () => {
+  const arrivals = await begin(BAD);
+  await put('pace', '25', 'change');
+  await blur();
+  const from = performance.now();
+  await page.key(' ', 'Space', ' ');
+  await wait(800);
+  assert.equal(await textOf('play'), 'Pause');
+  await page.key(' ', 'Space', ' ');
+  const most = 2 + (25 * (performance.now() - from)) / 1000, { seek: place } = await shown();
+  const taken = arrivals.slice(0, place).filter((a) => !a.lost).length;
+  assert.ok(taken >= 3 && taken <= most, `${taken} frames taken`);
+  await wait(200);
+  await hold(arrivals, place);
+  await put('pace', 'Infinity', 'change');
+  await click('play');
+  await idle();
+  await hold(arrivals);
+  await page.key('Home');
+  await idle();
+  assert.equal((await shown()).seek, 0);
+  await page.key('End');
+  await idle();
+  await hold(arrivals);
+  assert.match(await status(), /That was the last frame/);
+});
+
+test('a recording loads and plays', async () => {
+  await useLink(GOOD);
+  const frames = await night();
+  await open('night.recording', recorder.record(frames));
+  assert.equal(await textOf('source'), `Recording night.recording: ${frames.length} frames`);
+  await put('pace', 'Infinity', 'change');
+  await click('play');
+  await idle();
+  const played = recorder.play(recorder.record(frames)), is = await shown();
+  assert.equal(is.place, `Frame ${frames.length} of ${frames.length}, ${played.messages} messages`);
+  assert.deepEqual(is.bundles.map((b) => b.octets), played.bundles.map((b) => hexOf(b)).slice(-100));
+  assert.deepEqual(is.refused.map((r) => [+r.frame, +r.number]), played.refused.map((r) => [r.frame, r.number]));
+});
+
+test('stop after a number of messages, as the library plays a recording', async () => {
+  const several = Uint8Array.from([...message(2, 0, [65]), 0, 0, 0, ...message(2, 0, [66]), ...message(2, 0, [67])]);
+  const frames = [octets('0200000140'), octets('030000'), several, ...sample.slice(0, 40)], recording = recorder.record(frames);
+  await open('limits.recording', recording);
+  for (const messages of [0, 1, 2, 3, 4, 5, 20]) {
+    await put('limit', messages, 'change');
+    await toTheEnd();
+    const played = recorder.play(recording, { messages }), is = await shown();
+    assert.deepEqual(is.bundles.map((b) => b.octets), played.bundles.map((b) => hexOf(b)));
+    assert.deepEqual(is.refused.map((r) => [+r.frame, +r.number]), played.refused.map((r) => [r.frame, r.number]));
+    assert.match(is.status, new RegExp(`^Stopped after ${played.messages} messages?[,.]`));
+    if (messages === 3) assert.match(is.status, /inside frame 3: 2 of its 4 messages were treated/);
+    await page.evaluate(`document.getElementById('restart').click()`);
+    await idle();
+  }
+  await seek(30);
+  await put('limit', '', 'change');
+  assert.equal((await shown()).seek <= 30, true);
+  await toTheEnd();
+  assert.equal((await shown()).seek, frames.length);
+});
+
+test('files that are neither hex nor a recording are refused in words, and change nothing', async () => {
+  await open('before.hex', writeHex(sample.slice(0, 5)));
+  await open('letter.txt', 'Dear passengers,\nnothing runs.\n');
+  assert.match(await status(), /^letter.txt was not loaded. It is no recording \(refusal \d+: .+\), and no lines of hex \(line 1: not hex\)/);
+  const recording = recorder.record(sample);
+  await open('short.recording', recording.subarray(0, recording.length - 7));
+  assert.match(await status(), /no recording \(refusal 16: octets of the recording are missing\)/);
+  await open('long.recording', Buffer.concat([recording, Buffer.from([0])]));
+  assert.match(await status(), /no recording \(refusal 20: octets behind the recording\)/);
+  assert.match(await textOf('faults'), /long.recording was not loaded/);
+  await page.evaluate(`window.kept = File.prototype.arrayBuffer; File.prototype.arrayBuffer = () => Promise.reject(new Error('it is gone'))`);
+  await open('gone.hex', '00\n');
+  await page.evaluate('File.prototype.arrayBuffer = window.kept');
+  assert.equal(await status(), 'gone.hex could not be read: it is gone');
+  assert.equal((await shown()).fates.length, 5);
+});
+
+test('saved as a recording: the frames that came over the link', async () => {
+  const arrivals = await begin(BAD);
+  await page.evaluate(`{
+    const make = URL.createObjectURL.bind(URL);
+    URL.createObjectURL = (blob) => make(window.saved = blob);
+  }`);
+  await click('save');
+  await says('/saved as a recording/');
+  const saved = await page.evaluate(`window.saved.arrayBuffer().then((buffer) => [...new Uint8Array(buffer)])`);
+  assert.deepEqual(recorder.open(Uint8Array.from(saved)), arrivals.filter((a) => !a.lost).map((a) => a.frame));
+  await useLink(GOOD);
+  await open('many.hex', writeHex(Array(1025).fill(octets('0200000141'))));
+  await click('save');
+  await says('/Not saved/');
+  assert.match(await status(), /1,025 frames.*refusal 17: more than 1,024 frames or 61,440 octets/);
+});
+
+/** Loads a long file, goes to its end and to and fro; answers how long the page did not answer at most. */
+async function longWork(frames) {
+  await page.evaluate(`{
+    let last = performance.now();
+    window.gap = 0;
+    window.watch = setInterval(() => {
+      const now = performance.now();
+      window.gap = Math.max(window.gap, now - last);
+      last = now;
+    }, 5);
+  }`);
+  await open('long.hex', writeHex(frames));
+  await toTheEnd();
+  assert.match((await shown()).place, /^Frame 20,000 of 20,000, /);
+  for (const place of [12345, 300, 19999]) await seek(place);
+  await blur();
+  await page.key('ArrowLeft');
+  await idle();
+  assert.equal((await shown()).seek, 19998);
+  await seek(9000);
+  return page.evaluate('clearInterval(window.watch), window.gap');
+}
+
+test('20,000 frames: the page answers all the time, and shows a part of the strip', async (t) => {
+  const frames = Array.from({ length: 20000 }, (_, k) => sample[k % sample.length]), gaps = [];
+  // A busy machine makes the page wait; so the best of three counts.
+  do gaps.push(await longWork(frames)); while (gaps.at(-1) >= 1000 && gaps.length < 3);
+  t.diagnostic(`longest time without an answer ${gaps.at(-1).toFixed(0)} ms`);
+  assert.ok(gaps.at(-1) < 1000, `${gaps.join(', ')} ms without an answer`);
+  const is = await shown();
+  assert.equal(is.fates.length, 512);
+  assert.ok(is.now > 100 && is.now < 412, `${is.now}`);
+  assert.match(await textOf('page'), /of 20,000$/);
+  assert.equal(is.bundles.length, 100);
+  assert.match(await textOf('more-bundles'), /^and [\d,]+ more before these$/);
+  assert.deepEqual(is.rows, rowsOf(natively(frames.slice(0, 9000)).rows));
+});
+
+test('steps in quick succession each count, while the seek before still goes on', async () => {
+  await seek(15000);
+  const during = await page.evaluate(`(() => {
+    // A clock on which every step takes longer than a slice.
+    const clock = performance.now.bind(performance);
+    let more = 0;
+    performance.now = () => clock() + (more += 30);
+    for (const id of ['back', 'back', 'back', 'step', 'back', 'back']) document.getElementById(id).click();
+    return { busy: document.body.dataset.busy, place: document.getElementById('place').textContent };
+  })()`);
+  await idle();
+  await page.evaluate('delete performance.now');
+  assert.equal(during.busy, 'yes');
+  assert.doesNotMatch(during.place, /^Frame 14,99/);
+  assert.match((await shown()).place, /^Frame 14,996 of 20,000/);
+});
+
+test('long work ends at Pause', async () => {
+  await put('pace', 'Infinity', 'change');
+  await click('restart');
+  await idle();
+  const places = await page.evaluate(`(async () => {
+    const place = () => +document.getElementById('seek').value, play = document.getElementById('play');
+    document.getElementById('end').click();
+    await new Promise((done) => setTimeout(done, 60));
+    const during = play.textContent;
+    play.click();
+    const paused = place();
+    await new Promise((done) => setTimeout(done, 150));
+    return { during, paused, later: place() };
+  })()`);
+  assert.equal(places.during, 'Pause');
+  assert.ok(places.paused > 0 && places.paused < 20000 && places.later === places.paused, JSON.stringify(places));
+});
+
+test('bundles cut here are handed out; a frame size that is refused is said in words', async () => {
+  const notice = 'A long notice. '.repeat(40).trim(), texts = ['Timetable: Weir\n07:30 Line R4 Platform 1 Quarry', notice, 'Short'];
+  await set({ texts: texts.join('\n---\n'), first: 4294967295, size: 128 });
+  await click('cut');
+  await says('/^3 bundles cut into \\d+ frames/');
+  await toTheEnd();
+  const bundles = (await shown()).bundles.map((b) => [b.number, Buffer.from(b.octets, 'hex').toString()]);
+  assert.deepEqual(bundles, [['-', texts[0]], ['4294967295', texts[1]], ['-', texts[2]]]);
+  for (const size of ['100', '2049', '']) {
+    await set({ size });
+    await page.evaluate(`document.getElementById('status').textContent = ''; document.getElementById('cut').click()`);
+    await says('/^Not cut/');
+    assert.match(await status(), /refusal 14: frame size outside 128 to 2,048/);
+  }
+  await set({ size: 128, texts: 'x'.repeat(5000) });
+  await click('cut');
+  await says('/^Not cut. refusal 11: bundle of 0 or more than 4,096 octets/');
+});
+
+test('pasted lines; refused frames in words with the bad octets marked', async () => {
+  const short = ['0200000441', '030000', '0280000102', '05000003000000', '00', '02100000', '0300000700000000000000'];
+  await paste([...short, `${'00'.repeat(10)}0500000141`]);
+  await toTheEnd();
+  const items = await page.evaluate(`[...document.querySelectorAll('#refused li')].reverse()
+    .map((li) => ['.what', 'mark', 'pre'].map((part) => li.querySelector(part).textContent))`);
+  const content = 'content of a transfer message too short, or of a cancel not 4 octets';
+  assert.deepEqual(items, [
+    ['Frame 1: a length runs past the frame', '02 00 00 04', '02 00 00 04 41'],
+    ['Frame 2: fewer than 4 octets left for a header', '03 00 00', '03 00 00'],
+    ['Frame 3: a chain of hints runs past its message', '02 80 00 01', '02 80 00 01 02'],
+    [`Frame 4: ${content}`, '05 00 00 03', '05 00 00 03 00 00 00'],
+    [`Frame 7: ${content}`, '03 00 00 07', '03 00 00 07 00 00 00 00 00 00 00'],
+    [`Frame 8: ${content}`, '05 00 00 01', '… 00 00 00 00 00 00 00 00 05 00 00 01 41'],
+  ]);
+  await page.evaluate(`document.querySelector('#refused .go').click()`);
+  await idle();
+  assert.equal((await shown()).seek, 8);
+});
+
+test('every control and picture has a name, and the contrast is enough', async () => {
+  const arrivals = await begin(BAD);
+  await seek(105);
+  await wait(500);
+  if (pictures) await page.screenshot(path.join(pictures, 'desk.png'));
+  const least = await leastContrast(page);
+  assert.ok(least.ratio >= 4.5, JSON.stringify(least));
+  await page.evaluate(`for (const details of document.querySelectorAll('details')) details.open = true`);
+  assert.deepEqual(await unnamed(page), []);
+  assert.ok((await leastContrast(page)).ratio >= 4.5);
+  await page.evaluate(`for (const details of document.querySelectorAll('details')) details.open = false`);
+  await hold(arrivals, 105);
+});
+
+test('narrow screens need no scrolling to the side', async () => {
+  for (const width of [400, 320, 700, 1000]) {
+    await page.size(width, 800);
+    await wait(100);
+    assert.ok(await page.evaluate('document.documentElement.scrollWidth <= innerWidth'), `${width} px`);
+  }
+  await page.size(LARGE.width, LARGE.height);
+});
+
+test('a recorded night, in the middle', async () => {
+  await useLink(GOOD);
+  const frames = await night();
+  await open('night.recording', recorder.record(frames));
+  await seek(Math.round(frames.length / 2));
+  await put('station', 'Mill Bridge', 'change');
+  const is = await hold(overLink(frames, GOOD), Math.round(frames.length / 2), { station: 'Mill Bridge' });
+  assert.ok(is.departures.length > 3 && is.notices.length > 1 && frames.length > 300);
+  await wait(500);
+  if (pictures) await page.screenshot(path.join(pictures, 'desk-night.png'));
+  await put('station', '', 'change');
+});
+
+test('frames passed on are shown by the board in another tab, each once', async () => {
+  const board = await browser.page(`${site.address}/board.html?now=07:10&station=Harbour&board=desk-test`);
+  try {
+    await board.until('document.body.dataset.ready');
+    await begin(GOOD);
+    await page.evaluate(`window.heard = 0; new BroadcastChannel('btpu-frames').onmessage = () => window.heard++`);
+    await page.evaluate(`document.getElementById('send').checked = true`);
+    await toTheEnd();
+    await seek(10);
+    await toTheEnd();
+    await page.until(`window.heard >= ${sample.length}`);
+    await board.until(`document.querySelectorAll('#departures tbody tr').length > 3`);
+    assert.match(await board.evaluate(`document.getElementById('station').textContent`), /Harbour/);
+    await wait(100);
+    assert.equal(await page.evaluate('window.heard'), sample.length);
+    assert.deepEqual(board.errors, []);
+  } finally {
+    await page.evaluate(`document.getElementById('send').checked = false`);
+    await board.close();
+  }
+});
+
+test('a trap is told, and Restart makes a new receiver', async () => {
+  site.made.set('/btpu.wasm', Buffer.from(withStack(fs.readFileSync(path.join(web, 'btpu.wasm')), 20000)));
+  const starved = await browser.page(`${site.address}/desk.html`);
+  try {
+    await starved.until('document.body.dataset.ready');
+    const frames = [octets('0200000141'), Uint8Array.from(message(2, 128, chain(1022))), octets('0200000142')];
+    await starved.evaluate(`document.getElementById('lines').value = ${JSON.stringify(writeHex(frames))}`);
+    await starved.evaluate(`document.getElementById('paste').click()`);
+    await starved.until(`document.querySelectorAll('#strip .f').length === 3`);
+    await starved.evaluate(`document.getElementById('end').click()`);
+    await starved.until(`/failed at frame 2: the module trapped.*Restart/.test(document.getElementById('status').textContent)`);
+    await starved.evaluate(`document.getElementById('restart').click()`);
+    await starved.until(`/3 frames ready/.test(document.getElementById('status').textContent)`);
+    await starved.evaluate(`document.getElementById('step').click()`);
+    assert.equal(await starved.evaluate(`document.querySelectorAll('#bundles > li').length`), 1);
+    assert.deepEqual(starved.errors, []);
+  } finally {
+    site.made.delete('/btpu.wasm');
+    await starved.close();
+  }
+});
+
+test('a module that does not load is said', async () => {
+  site.made.set('/btpu.wasm', Buffer.from('no module'));
+  const failed = await browser.page(`${site.address}/desk.html`);
+  try {
+    await failed.until(`document.body.dataset.ready === 'failed'`);
+    assert.match(await failed.evaluate(`document.getElementById('status').textContent`), /The desk does not work: /);
+  } finally {
+    site.made.delete('/btpu.wasm');
+    await failed.close();
+  }
+});
+
+test('nothing was loaded from elsewhere, and no error was logged', async () => {
+  const names = await page.evaluate(`performance.getEntriesByType('resource').map((entry) => entry.name)`);
+  assert.ok(names.length >= 6 && names.every((name) => name.startsWith(site.address) || name.startsWith('blob:')), names.join('\n'));
+  assert.deepEqual(page.errors, []);
+});
