@@ -1,13 +1,13 @@
 -- A frame taken to its end by calls, refused calls between, is its messages treated one after the other; and every well-formed frame can be
 -- taken to its end by a ready board, so that a fresh board can take any list of well-formed frames.
 use mathlib.Core.Path.{_≡_, refl, sym, ap, _∙_}
-use mathlib.Core.List.{List, [], _∷_, _++_, map, append-assoc, List·Memᴰ, List·Memᴰ·head, List·Memᴰ·tail, List·Memᴰ·not-nil}
+use mathlib.Core.List.{List, [], _∷_, map, List·Memᴰ, List·Memᴰ·head, List·Memᴰ·tail, List·Memᴰ·not-nil}
 use Prim.Native.Nat.{ℕ, zero, suc, _≤_, _<_}
 use native.Mathlib.Omega.{arith}
 use lib.ListN.{length, take, replicate, length-append, length-replicate}
 use Rattle.wire.specs.Message.{Message}
-use Rattle.wire.specs.Frame.{Item, items, messages, from}
-use Rattle.wire.proofs.Order.{Leads, leads, from-start, from-next, leads-behind, good-place}
+use Rattle.wire.specs.Frame.{Item, items, messages}
+use Rattle.wire.proofs.Order.{good-place}
 use Rattle.window.specs.Window.{Window}
 use Rattle.pieces.specs.Pieces.{bundleMax}
 use Rattle.rows.specs.declared.Origin.{Origin}
@@ -17,6 +17,8 @@ use Rattle.rows.specs.Message.{Draft, Board, messagesFrom}
 use Rattle.receiver.specs.Receive.{Reply, treat, receive}
 use Rattle.receiver.proofs.Ready.{Ready, treat-ready, fresh-ready}
 use Rattle.rows.specs.Messages.{boardAfter, handedBy, messagesIn}
+use Rattle.receiver.proofs.Standing as Standing
+use Rattle.receiver.proofs.Standing.{at-start, at-next}
 use Rattle.receiver.proofs.Calls.{Treated, through, stops, treating, refused-keeps, not-refused, admitted}
 use Rattle.claims.specs.Record.{WellFormed, Record}
 use Rattle.claims.specs.Calls.{Fresh, Delivery, Entry, Takes, delivered, finished, refused, Calls, over, taken, between}
@@ -27,28 +29,8 @@ module _ (D : Draft) (M : Measured D) (w : ℕ) (f : List ℕ) (F : WellFormed D
   abbrev answersBy : Board → List Message → List Delivery
   answersBy b ms = map answered (handedBy w (D .falling) b ms)
 
-  -- the items `rest` stand from place `at` on
-  record At (at : ℕ) (rest : List Item) : Type 0 where
-    front : List Item
-    split : F .items ≡ front ++ rest
-    here : from at (F .items) ≡ rest
-    on : Leads at rest (length f)
-
-  all-lead : Leads 0 (F .items) (length f)
-  all-lead = leads (D .read) M f (F .items) (F .whole)
-
-  at-start : At 0 (F .items)
-  at-start = record { front = []; split = refl; here = from-start 0 (length f) (F .items) all-lead; on = all-lead }
-
-  at-next : {at : ℕ} {rest : List Item} → At at rest → (pre : List Item) (i : Item) (suf : List Item) → rest ≡ pre ++ i ∷ suf → At (i .next) suf
-  at-next {at} A pre i suf q =
-      let cut : F .items ≡ (A .front ++ pre) ++ i ∷ suf = A .split ∙ ap (λ l. A .front ++ l) q ∙ sym (append-assoc (A .front) pre (i ∷ suf)) in
-      record {
-        front = (A .front ++ pre) ++ i ∷ [];
-        split = cut ∙ sym (append-assoc (A .front ++ pre) (i ∷ []) suf);
-        here = rw cut (from-next 0 (length f) (A .front ++ pre) i suf (rw cut at all-lead));
-        on = leads-behind at (length f) pre i suf (rw q at (A .on));
-      }
+  abbrev At : ℕ → List Item → Type 0
+  At = Standing.At D M f (F .items) (F .whole)
 
   module _ (b : Board) (at : ℕ) (rest : List Item) (A : At at rest) (output : List ℕ) where
     abbrev reply : Reply
@@ -91,7 +73,7 @@ module _ (D : Draft) (M : Measured D) (w : ℕ) (f : List ℕ) (F : WellFormed D
             let origin≡ : origin ≡ h .origin = cc in
             let octets≡ : take size (reply .output) ≡ h .octets = rw (size≡, r) t in
             let h≡ : answered h ≡ record { origin = origin; size = size; octets = take size (reply .output) } = λ j. record { origin = sym origin≡ j; size = sym size≡ j; octets = sym octets≡ j } in
-            record { later = suf; place = rw next≡ (at-next A pre i suf q); hands = rw (← h≡, r) (ap (map answered) hs); leaves = rw r v }
+            record { later = suf; place = rw next≡ (at-next D M f (F .items) (F .whole) A pre i suf q); hands = rw (← h≡, r) (ap (map answered) hs); leaves = rw r v }
 
   take-run : {b after : Board} {at : ℕ} {hs : List Delivery} → Takes D w f b at hs after → (rest : List Item) → At at rest
       → (answersBy b (messagesIn rest) ≡ hs) × (boardAfter w (D .falling) b (messagesIn rest) ≡ after)
@@ -105,7 +87,7 @@ module _ (D : Draft) (M : Measured D) (w : ℕ) (f : List ℕ) (F : WellFormed D
   pub frame-run : {b after : Board} {hs : List Delivery} → Takes D w f b 0 hs after
       → (answersBy b (messages (D .read) f) ≡ hs) × (boardAfter w (D .falling) b (messages (D .read) f) ≡ after)
   unfolding messages items
-  frame-run t = rw (F .whole) (take-run t (F .items) at-start)
+  frame-run t = rw (F .whole) (take-run t (F .items) (at-start D M f (F .items) (F .whole)))
 
   -- ---- every frame can be taken
 
@@ -135,7 +117,7 @@ module _ (D : Draft) (M : Measured D) (w : ℕ) (f : List ℕ) (F : WellFormed D
         go (through a h q) = record { handed = []; after = receive D w b f at buffer .board; takes = finished buffer (ap (λ (x : Reply). x .answer) r ∙ a); ready = ready }
         go (stops pre i suf h q a t hs v) =
             let lt : length suf < length rest = omega (arith, ap length q, length-append pre (i ∷ suf)) in
-            let rest′ = later (receive D w b f at buffer .board) (i .next) suf lt ready (at-next A pre i suf q) in
+            let rest′ = later (receive D w b f at buffer .board) (i .next) suf lt ready (at-next D M f (F .items) (F .whole) A pre i suf q) in
             record {
               handed = record { origin = h .origin; size = length (h .octets); octets = take (length (h .octets)) (receive D w b f at buffer .output) } ∷ rest′ .handed;
               after = rest′ .after;
@@ -148,7 +130,7 @@ module _ (D : Draft) (M : Measured D) (w : ℕ) (f : List ℕ) (F : WellFormed D
     callsWithin (suc n) b at rest le R A = call b at rest R A (λ b′ at′ rest′ lt. callsWithin n b′ at′ rest′ (omega arith))
 
     pub takeable : (b : Board) → Ready w b → Taking b 0
-    takeable b R = callsWithin (length (F .items)) b 0 (F .items) (omega arith) R at-start
+    takeable b R = callsWithin (length (F .items)) b 0 (F .items) (omega arith) R (at-start D M f (F .items) (F .whole))
 
 abbrev pub framesOf : List Entry → List (List ℕ)
 framesOf es = map (λ (e : Entry). e .frame) es

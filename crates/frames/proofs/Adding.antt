@@ -1,7 +1,7 @@
 -- What bundles add to an output and to lists of entries, one bundle at a time, and what refused frames add.
 use mathlib.Core.Path.{_≡_, refl, sym, ap, _∙_}
 use mathlib.Core.Option.{none, some}
-use mathlib.Core.List.{List, [], _∷_, _++_, map}
+use mathlib.Core.List.{List, [], _∷_, _++_, map, map-append}
 use Prim.Native.Nat.{ℕ, _+_, _≤_}
 use native.Mathlib.Omega.{arith}
 use lib.ListN.{length, set, length-set, length-append, length-map}
@@ -66,10 +66,6 @@ adds-bundle r after b next h hs A = record {
 }
 
 -- ---- one run behind another
-
-map-append : {A : Type 0} (f : A → ℕ) (xs ys : List A) → map f (xs ++ ys) ≡ map f xs ++ map f ys
-map-append f [] ys = refl
-map-append f (x ∷ xs) ys = ap (λ (l : List ℕ). f x ∷ l) (map-append f xs ys)
 
 length-joined : (hs hs′ : List Handed) → length (joinedOctets (hs ++ hs′)) ≡ length (joinedOctets hs) + length (joinedOctets hs′)
 unfolding joinedOctets

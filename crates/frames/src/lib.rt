@@ -25,7 +25,7 @@ pub struct Reached {
 }
 
 // The number of a frame's refusal, or 0.
-fn reason_of(frame: &[u8], place: usize) -> u32
+pub fn reason_of(frame: &[u8], place: usize) -> u32
     ensures { λ r. ⌜ r ≡ numberOf (unfit draft02 (now (frame .entry)) place) ⌝ }
 {
     let a = receiver::admit_frame(frame, place);

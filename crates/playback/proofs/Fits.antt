@@ -31,7 +31,7 @@ use Rattle.recording.specs.Recording.{octetsMax}
 use Rattle.frames.specs.Frames.{Reach, fronted, noted, passed, within, through}
 use Rattle.frames.proofs.Joined.{octetsIn}
 use Rattle.frames.proofs.Adding.{entries, Adds, adds-none, adds-silent, adds-bundle, adds-behind, Notes, notes-none}
-use Rattle.playback.proofs.Costs.{fee, Priced, Pays, pays, pays-within}
+use Rattle.frames.proofs.Costs.{fee, Priced, Pays, pays, pays-within}
 use Rattle.playback.specs.Playback.{unless, noteOf, allMessages, notesWithin}
 
 -- the bundles of a recording are at most a quarter of its octets

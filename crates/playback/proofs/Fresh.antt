@@ -33,7 +33,7 @@ use Rattle.frames.proofs.Adding.{poured-put, entries-put, sizesOf}
 use Rattle.playback.specs.Playback.{Playback, noteOf, notesWithin, played}
 use Rattle.playback.specs.Call.{Results, results, Reply, reply, answered, bundlesMax, bufferSize, Enough, playedFresh}
 use Rattle.playback.specs.declared.Answer.the-variants.{Played}
-use Rattle.playback.proofs.Costs.{priced-read}
+use Rattle.frames.proofs.Costs.{priced-read}
 use Rattle.playback.proofs.Fits.{bundlesLimit, Paid, Plays, plays}
 
 held-fresh : (n : ℕ) → held (replicate n (emptyRow Free)) ≡ 0

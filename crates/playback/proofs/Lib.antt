@@ -1,9 +1,7 @@
 -- Laws of playback.
---     Costs      what a message brings and hands out, it takes up in its frame
 --     Fits       nothing but the limit of messages stops a playback
 --     Fresh      playback on a fresh receiver
 --     Refusals   the order of the refusals, and the count of messages
-pub mod Costs
 pub mod Fits
 pub mod Fresh
 pub mod Refusals

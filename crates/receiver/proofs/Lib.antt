@@ -4,6 +4,7 @@
 --     Pool       cells after one of them is put
 --     Ready      every message and every call leaves a sound state sound
 --     Calls      a receiving call by cases
+--     Standing   where messages stand in a well-formed frame
 --     Bounds     the place that a refusal names, and the greatest number, lie within bounds
 --     Reserved   reserved flag bits are ignored
 --     Weight     no octet is handed out twice
@@ -12,6 +13,7 @@ pub mod Refusals
 pub mod Pool
 pub mod Ready
 pub mod Calls
+pub mod Standing
 pub mod Bounds
 pub mod Reserved
 pub mod Weight

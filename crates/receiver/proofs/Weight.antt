@@ -20,7 +20,7 @@ use Rattle.row.proofs.Shaped.{Shaped}
 use Rattle.reassembly.specs.Rules as Rules
 use Rattle.pieces.specs.Pieces.{bundleMax}
 use Rattle.reassembly.specs.Rules.{pieceStep, cancelStep, cancelled}
-use Rattle.reassembly.proofs.Kept.{bundleSize, weight, empty-weight, piece-weight}
+use Rattle.reassembly.proofs.Kept.{bundleSize, weight, empty-weight, piece-weight, piece-bundle-fits}
 use Rattle.rows.specs.State as State
 use Rattle.rows.specs.State.{isFree, soundRows}
 use Rattle.rows.specs.Message.{Board, Handed, Outcome, cellAt, freedFrom, moved, inRow, treatTransfer, step, handedOf}
@@ -79,6 +79,22 @@ weighs-cancel : Weighs 0 cancelStep
 unfolding cancelStep bundleSize
 weighs-cancel r cell s z l = omega (arith, cancel-weight r)
 
+-- a row rule whose bundles are no longer than a bundle may be
+abbrev Fits : (Row → List ℕ → Rules.Outcome) → Type 0
+Fits rule = (r : Row) (cell : List ℕ) → soundRow r ≡ true → Shaped r → length cell ≡ bundleMax → bundleSize (rule r cell .bundle) ≤ bundleMax
+
+fits-piece : (falling ending : Bool) (i : ℕ) (d : List ℕ) → Fits (pieceStep falling ending i d)
+unfolding bundleSize
+fits-piece falling ending i d r cell s z l = go (pieceStep falling ending i d r cell .bundle) refl
+  where
+    go : (o : Option (List ℕ)) → pieceStep falling ending i d r cell .bundle ≡ o → bundleSize o ≤ bundleMax
+    go none e = omega arith
+    go (some x) e = piece-bundle-fits falling ending i d r cell x s z l e
+
+fits-cancel : Fits cancelStep
+unfolding cancelStep bundleSize
+fits-cancel r cell s z l = omega arith
+
 module _ (w : ℕ) (win : Window w) where
   row-weight : (n : ℕ) (rule : Row → List ℕ → Rules.Outcome) → Weighs n rule → (b : Board) (t : ℕ) → Ready w b
       → octetsOf (inRow w rule b t .handed) + held (inRow w rule b t .board .state .rows) ≤ held (b .state .rows) + n
@@ -108,3 +124,28 @@ module _ (w : ℕ) (win : Window w) where
   step-weight falling b (segment t i d) R = transfer-weight _ (length d) _ (weighs-piece falling false i d) b t R
   step-weight falling b (last t i d) R = transfer-weight _ (length d) _ (weighs-piece falling true i d) b t R
   step-weight falling b (cancel t) R = transfer-weight _ 0 _ weighs-cancel b t R
+
+  row-fits : (rule : Row → List ℕ → Rules.Outcome) → Fits rule → (b : Board) (t : ℕ) → Ready w b → octetsOf (inRow w rule b t .handed) ≤ bundleMax
+  unfolding inRow State.sound
+  row-fits rule W b t R =
+      let k : ℕ = rowOf w t in
+      let r : Row = getD (b .state .rows) k (emptyRow Free) in
+      let k< = row-below w win t in
+      let s = both (b .state .present || eqb (b .state .greatest) 0) (soundRows (b .state .present) (b .state .rows)) (R .sound) .1 in
+      let old = both (soundRow r) (b .state .present || isFree (r .phase)) (sound-get (b .state .present) (b .state .rows) k (emptyRow Free) (omega (arith, R .rows)) s) .0 in
+      rw (handed-size _ (rule r (cellAt (b .pool) k) .bundle)) (W r (cellAt (b .pool) k) old (R .shaped k k<) (length-cell w (b .pool) (R .pool) k k<))
+
+  transfer-fits : (s : Standing) (rule : Row → List ℕ → Rules.Outcome) → Fits rule → (b : Board) (t : ℕ) → Ready w b → octetsOf (treatTransfer w s rule b t .handed) ≤ bundleMax
+  unfolding treatTransfer octetsOf
+  transfer-fits Inside rule W b t R = row-fits rule W b t R
+  transfer-fits (New d) rule W b t R = row-fits rule W (moved w b t d) t (moved-ready w win b t d R)
+  transfer-fits Outside rule W b t R = omega arith
+
+  -- a bundle handed out is no longer than a bundle may be, if one that came in one message is not
+  pub step-fits : (falling : Bool) (b : Board) (m : Message) → Ready w b → payload m ≤ bundleMax → octetsOf (step w falling b m .handed) ≤ bundleMax
+  unfolding step payload octetsOf handedOf
+  step-fits falling b skipped R le = omega arith
+  step-fits falling b (bundle c) R le = le
+  step-fits falling b (segment t i d) R le = transfer-fits _ _ (fits-piece falling false i d) b t R
+  step-fits falling b (last t i d) R le = transfer-fits _ _ (fits-piece falling true i d) b t R
+  step-fits falling b (cancel t) R le = transfer-fits _ _ fits-cancel b t R

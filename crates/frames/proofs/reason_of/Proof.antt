@@ -1,5 +1,5 @@
 -- `frames::reason_of` meets its contract.
-use mathlib.Core.Path.{_≡_, refl, sym, _∙_}
+use mathlib.Core.Path.{refl, sym, _∙_}
 use Rattle.receiver.proofs.Refusals.{denied, admitted}
 use borrow.Author.Needs.{needs}
 use Rattle.frames.proofs.reason_of.Statement.{statement}
