@@ -82,8 +82,13 @@ extern "C" {
 #define BTPU_MIN_FRAME_SIZE 128
 #define BTPU_MAX_FRAME_SIZE 2048
 #define BTPU_MAX_RECORDING 63496
-#define BTPU_STACK 65536
-#define BTPU_PLAY_STACK 131072
+#define BTPU_STACK 73728
+#define BTPU_PLAY_STACK 139264
+
+/* What a burst has at most: frames, and bundles handed out */
+
+#define BTPU_BURST_FRAMES 64
+#define BTPU_BURST_BUNDLES 256
 
 /* What a recording holds at most, and what a playback of it comes to at most */
 
@@ -103,6 +108,14 @@ extern "C" {
 #define BTPU_LENGTH 1 /* of a bundle: its length in the output */
 #define BTPU_PLACE 2  /* of a bundle: the next place */
 #define BTPU_NUMBER 3 /* of a bundle: its transfer number, or BTPU_NO_NUMBER */
+
+#define BTPU_BURST_RESULT 5 /* btpu_receive_burst has a result of its own */
+
+#define BTPU_BURST_COUNT 0   /* bundles handed out */
+#define BTPU_BURST_OCTETS 1  /* octets of all of them */
+#define BTPU_BURST_FRAME 2   /* where the next call goes on: the frame, or the number of frames */
+#define BTPU_BURST_PLACE 3   /* and the place in it */
+#define BTPU_BURST_REFUSED 4 /* frames refused */
 
 #define BTPU_WRITTEN 0 /* btpu_record: octets written */
 
@@ -139,16 +152,17 @@ extern "C" {
 /* Refusals */
 
 #define BTPU_REFUSED_STATE 1         /* not a sound state: all calls with an image but the starts */
-#define BTPU_REFUSED_LENT 2          /* receive: pool not 65,536 octets, or output below 4,096;
-                                        play: pool not 65,536 octets */
-#define BTPU_REFUSED_FRAME_LENGTH 3  /* receive: frame of 0 or more than 2,048 octets */
+#define BTPU_REFUSED_LENT 2          /* receive, receive_burst: pool not 65,536 octets, or output
+                                        below 4,096; play: pool not 65,536 octets */
+#define BTPU_REFUSED_FRAME_LENGTH 3  /* receive: frame of 0 or more than 2,048 octets;
+                                        receive_burst: more than 64 frames */
 #define BTPU_REFUSED_HEADER 4        /* receive: fewer than 4 octets left for a header */
 #define BTPU_REFUSED_FLAG 5          /* never given: reserved flag bits are ignored */
 #define BTPU_REFUSED_LENGTH 6        /* receive: a length runs past the frame */
 #define BTPU_REFUSED_HINTS 7         /* receive: a chain of hints runs past its message */
 #define BTPU_REFUSED_CONTENT 8       /* receive: content of a transfer message too short, or of a
                                         cancel not 4 octets */
-#define BTPU_REFUSED_PLACE 9         /* receive: not a good place */
+#define BTPU_REFUSED_PLACE 9         /* receive, receive_burst: not a good place */
 #define BTPU_REFUSED_FRAME_BUFFER 10 /* place, cancel, flush: frame buffer not of the frame size */
 #define BTPU_REFUSED_BUNDLE 11       /* place: bundle of 0 or more than 4,096 octets */
 #define BTPU_REFUSED_OTHER_LENGTH 12 /* place: not the length of the transfer begun */
@@ -158,7 +172,8 @@ extern "C" {
 #define BTPU_REFUSED_OVER_LIMIT 17   /* record, recording_open, play: more than 1,024 frames or
                                         61,440 octets */
 #define BTPU_REFUSED_RECORDED_LENGTH 18 /* the same: a frame's length outside 1 to 2,048 */
-#define BTPU_REFUSED_OCTET_COUNT 19  /* the same: the octets are not the sum of the lengths */
+#define BTPU_REFUSED_OCTET_COUNT 19  /* the same, and receive_burst: the octets are not the sum of
+                                        the lengths */
 #define BTPU_REFUSED_LEFT_OVER 20    /* recording_open, play: octets behind the recording */
 #define BTPU_REFUSED_SHORT_OUTPUT 24 /* record: output too short; play: an output or a list has
                                         fewer entries than btpu_play asks for */
@@ -195,6 +210,39 @@ uint32_t btpu_receiver_check(const uint8_t state[BTPU_RECEIVER_IMAGE]);
 uint32_t btpu_receive(uint8_t state[BTPU_RECEIVER_IMAGE], uint8_t *pool, uint64_t pool_len,
                       const uint8_t *frame, uint64_t frame_len, uint64_t place, uint8_t *output,
                       uint64_t output_len, uint64_t result[BTPU_RESULT]);
+
+/*
+ * Takes up to BTPU_BURST_FRAMES frames in one call, as calls of btpu_receive one after another
+ * would.
+ *
+ * The frames are given by their lengths, sizes[0] to sizes[frames - 1], and their octets, one
+ * behind another; a frame too long for 16 bits may be given as any length above 2,048. They are
+ * taken from frame `frame`, from 0, and from `place` in it on. A frame that btpu_receive would
+ * refuse, other than for its place, is passed over, whatever the place: its number among the
+ * frames, from 0, goes to places and the number of its refusal (3, 4, 6, 7 or 8) to reasons.
+ * Before each message, and before a frame is passed over, the call stops if BTPU_BURST_BUNDLES
+ * bundles are out or fewer than BTPU_MIN_OUTPUT octets of output are left. To take all frames,
+ * call with frame 0 and place 0, then with the frame and place answered, until that frame is
+ * `frames`. At a frame's end the answer is the next frame and place 0.
+ *
+ * The bundles go one behind another to the front of the output, their lengths to the front of
+ * lengths, their transfer numbers or BTPU_NO_NUMBER to the front of numbers; the entries
+ * BTPU_BURST_... of result say how many there are, and where the next call goes on. All other
+ * octets and entries stay.
+ *
+ * Pool and output as for btpu_receive. With more output than 4,096 octets fewer calls are needed:
+ * 1,048,576 octets suffice for 256 bundles.
+ * Refusals: 1; 2; 3 for more than BTPU_BURST_FRAMES frames; 19; 9 for a frame above `frames`, or a
+ * place that btpu_receive refuses with 9, or any but 0 where frame is `frames`; in this order.
+ */
+uint32_t btpu_receive_burst(uint8_t state[BTPU_RECEIVER_IMAGE], uint8_t *pool, uint64_t pool_len,
+                            const uint16_t *sizes, uint64_t frames, const uint8_t *octets,
+                            uint64_t octets_len, uint64_t frame, uint64_t place, uint8_t *output,
+                            uint64_t output_len, uint16_t lengths[BTPU_BURST_BUNDLES],
+                            uint64_t numbers[BTPU_BURST_BUNDLES],
+                            uint32_t places[BTPU_BURST_FRAMES],
+                            uint32_t reasons[BTPU_BURST_FRAMES],
+                            uint64_t result[BTPU_BURST_RESULT]);
 
 /*
  * Writes the image of a fresh sender with frames of frame_size octets, whose first transfer has

@@ -5,8 +5,10 @@ use crate::model::interface;
 use crate::random::Random;
 use btpu::raw::{self, MIN_OUTPUT, NO_NUMBER, POOL, RECEIVER_IMAGE, SENDER_IMAGE};
 
+mod burst;
 mod recording;
 
+pub use burst::{Burst, Taken};
 pub use recording::{Opened, PlayMemory, Played};
 
 /// One run of a scenario. A difference ends it with a message that names scenario and seed.
@@ -70,7 +72,11 @@ impl<'a> Trial<'a> {
 
     /// Compares what a call returned and left in its result; the answer is the refusal's number.
     #[track_caller]
-    fn same_answer(&mut self, model: (u32, [u64; 4]), exported: (u32, [u64; 4])) -> u32 {
+    fn same_answer<const ENTRIES: usize>(
+        &mut self,
+        model: (u32, [u64; ENTRIES]),
+        exported: (u32, [u64; ENTRIES]),
+    ) -> u32 {
         if model != exported {
             let [model, exported] = [model, exported]
                 .map(|(returned, result)| format!("{returned:#x} with result {result:x?}"));

@@ -35,6 +35,7 @@ pub struct Coverage {
     pub sending_calls: u64,
     pub starts: u64,
     pub recording_calls: u64,
+    pub burst_calls: u64,
     /// Images checked that are sound, and that are not.
     pub checked_receivers: [u64; 2],
     pub checked_senders: [u64; 2],
@@ -75,6 +76,8 @@ pub struct Coverage {
     pub reserved_types: [u64; 6],
     pub reserved_bits: [u64; 3],
     pub recordings: Recordings,
+    /// Bursts to the last frame's end, and stopped before.
+    pub bursts: [u64; 2],
 }
 
 impl Coverage {
@@ -111,6 +114,7 @@ impl Coverage {
             + self.starts
             + self.checks()
             + self.recording_calls
+            + self.burst_calls
     }
 
     /// Every count of a case with its name.
@@ -208,6 +212,7 @@ impl Coverage {
         list("unsound receiver", &RECEIVER_DAMAGE, &self.receiver_damage);
         list("unsound sender", &SENDER_DAMAGE, &self.sender_damage);
         list("bundle", &["from sender to receiver"], &[self.round_trips]);
+        list("burst", &["to the end", "stopped before"], &self.bursts);
         list(
             "frame",
             &["chain of 1,000 hints", "500 messages"],

@@ -3,6 +3,7 @@
 //!
 //! The exported interface is compared with this model, and its speed is measured against it.
 
+pub mod burst;
 pub mod image;
 pub mod interface;
 pub mod playback;

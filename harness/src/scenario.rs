@@ -7,11 +7,12 @@ use crate::model::receiver::CELL;
 use crate::random::Random;
 use btpu::raw::{POOL, RECEIVER_IMAGE};
 
+mod bursts;
 pub mod recordings;
 
 type Scenario = (&'static str, fn(&mut Trial));
 
-pub const SCENARIOS: [Scenario; 22] = [
+pub const SCENARIOS: [Scenario; 23] = [
     ("honest", honest),
     ("sent", sent),
     ("hostile", hostile),
@@ -34,6 +35,7 @@ pub const SCENARIOS: [Scenario; 22] = [
     ("damaged recordings", recordings::damaged_recordings),
     ("playbacks", recordings::playbacks),
     ("full recordings", recordings::full_recordings),
+    ("bursts", bursts::bursts),
 ];
 
 /// Runs one scenario.

@@ -1,7 +1,9 @@
 //! One interface for the two sides that are compared.
 
 use crate::model::interface;
-use btpu::raw::{self, RECEIVER_IMAGE, RECORDED_FRAMES, SENDER_IMAGE};
+use btpu::raw::{self, BURST_RESULT, RECEIVER_IMAGE, RECORDED_FRAMES, SENDER_IMAGE};
+
+pub use btpu::raw::{BurstBundles, BurstNotes};
 
 pub trait Side {
     const NAME: &'static str;
@@ -14,6 +16,15 @@ pub trait Side {
         place: u64,
         output: &mut [u8],
         result: &mut [u64; 4],
+    ) -> u32;
+    fn receive_burst(
+        state: &mut [u8; RECEIVER_IMAGE],
+        pool: &mut [u8],
+        frames: (&[u16], &[u8]),
+        from: (u64, u64),
+        bundles: BurstBundles,
+        notes: BurstNotes,
+        result: &mut [u64; BURST_RESULT],
     ) -> u32;
     fn sender_start(state: &mut [u8; SENDER_IMAGE], frame_size: u64, first_number: u32) -> u32;
     fn sender_check(state: &[u8; SENDER_IMAGE]) -> u32;
@@ -64,6 +75,18 @@ impl Side for Model {
         result: &mut [u64; 4],
     ) -> u32 {
         interface::receive(state, pool, frame, place, output, result, &mut ())
+    }
+
+    fn receive_burst(
+        state: &mut [u8; RECEIVER_IMAGE],
+        pool: &mut [u8],
+        frames: (&[u16], &[u8]),
+        from: (u64, u64),
+        bundles: BurstBundles,
+        notes: BurstNotes,
+        result: &mut [u64; BURST_RESULT],
+    ) -> u32 {
+        interface::receive_burst(state, pool, frames, from, bundles, notes, result)
     }
 
     fn sender_start(state: &mut [u8; SENDER_IMAGE], frame_size: u64, first_number: u32) -> u32 {
@@ -135,6 +158,18 @@ impl Side for Exported {
         result: &mut [u64; 4],
     ) -> u32 {
         raw::receive(state, pool, frame, place, output, result)
+    }
+
+    fn receive_burst(
+        state: &mut [u8; RECEIVER_IMAGE],
+        pool: &mut [u8],
+        frames: (&[u16], &[u8]),
+        from: (u64, u64),
+        bundles: BurstBundles,
+        notes: BurstNotes,
+        result: &mut [u64; BURST_RESULT],
+    ) -> u32 {
+        raw::receive_burst(state, pool, frames, from, bundles, notes, result)
     }
 
     fn sender_start(state: &mut [u8; SENDER_IMAGE], frame_size: u64, first_number: u32) -> u32 {

@@ -36,13 +36,14 @@ fn every_scenario_agrees_and_every_case_is_reached() {
         println!("{count:>9} {case}");
     }
     println!(
-        "{} calls: {} receiving, {} sending, {} starts, {} checks, {} for recordings",
+        "{} calls: {} receiving, {} sending, {} starts, {} checks, {} for recordings, {} bursts",
         coverage.calls(),
         coverage.receiving_calls,
         coverage.sending_calls,
         coverage.starts,
         coverage.checks(),
-        coverage.recording_calls
+        coverage.recording_calls,
+        coverage.burst_calls
     );
     for (case, count) in coverage.cases() {
         assert!(count >= FLOOR, "{case}: only {count}");
@@ -57,6 +58,7 @@ fn every_scenario_agrees_and_every_case_is_reached() {
     assert!(coverage.receiving_calls >= 120_000);
     assert!(coverage.sending_calls >= 60_000);
     assert!(coverage.recording_calls >= 40_000);
+    assert!(coverage.burst_calls >= 4_000);
     assert!(coverage.checks() >= 150_000);
     assert!(coverage.calls() >= 390_000);
     assert_eq!(coverage.refusals.iter().sum::<u64>(), coverage.calls());

@@ -150,6 +150,148 @@ static void take(const uint8_t *frame, size_t length, struct bundles *list)
     }
 }
 
+/* ---- bursts */
+
+/* Frames one behind another. */
+struct list {
+    const uint16_t *sizes;
+    size_t count;
+    const uint8_t *octets;
+    size_t length;
+};
+
+static uint32_t refusal_of_burst(struct list list, int sound, size_t pool, size_t room)
+{
+    size_t sum = 0;
+    if (!sound)
+        return BTPU_REFUSED_STATE;
+    if (pool != BTPU_POOL || room < BTPU_MIN_OUTPUT)
+        return BTPU_REFUSED_LENT;
+    if (list.count > BTPU_BURST_FRAMES)
+        return BTPU_REFUSED_FRAME_LENGTH;
+    for (size_t k = 0; k < list.count; k++)
+        sum += list.sizes[k];
+    return sum != list.length ? BTPU_REFUSED_OCTET_COUNT : 0;
+}
+
+/* What a burst wrote, in lengths, numbers, places and reasons; all behind it has stayed. */
+static void expect_handed_out(void)
+{
+    const uint16_t *lengths = LIST(uint16_t, LENGTHS);
+    const uint64_t *numbers = LIST(uint64_t, BUNDLE_NUMBERS);
+    const uint32_t *places = LIST(uint32_t, PLACES), *reasons = LIST(uint32_t, REASONS);
+    size_t count = (size_t)result(BTPU_BURST_COUNT), sum = 0;
+    size_t refused = (size_t)result(BTPU_BURST_REFUSED);
+    expect_stays(LENGTHS, count * sizeof lengths[0]);
+    expect_stays(BUNDLE_NUMBERS, count * sizeof numbers[0]);
+    expect_stays(PLACES, refused * sizeof places[0]);
+    expect_stays(REASONS, refused * sizeof reasons[0]);
+    for (size_t k = 0; k < count; k++) {
+        expect(numbers[k] <= BTPU_NO_NUMBER, "number of a bundle");
+        sum += lengths[k];
+    }
+    expect(sum == result(BTPU_BURST_OCTETS), "octets of all bundles");
+    expect_stays(LONG_OUTPUT, sum);
+    for (size_t k = 0; k < refused; k++)
+        expect((k == 0 || places[k] > places[k - 1]) && reasons[k] >= 3 && reasons[k] <= 8 &&
+                   reasons[k] != BTPU_REFUSED_FLAG,
+               "note of a refused frame");
+}
+
+/* Where a burst that started so goes on: behind the start, and before the end only if it is full. */
+static void expect_goes_on(struct list list, size_t room, uint64_t frame, uint64_t place)
+{
+    uint64_t next = result(BTPU_BURST_FRAME), at = result(BTPU_BURST_PLACE);
+    int full = result(BTPU_BURST_COUNT) == BTPU_BURST_BUNDLES ||
+               room - result(BTPU_BURST_OCTETS) < BTPU_MIN_OUTPUT;
+    for (size_t k = 0; k < result(BTPU_BURST_REFUSED); k++)
+        expect(LIST(uint32_t, PLACES)[k] >= frame && LIST(uint32_t, PLACES)[k] < next,
+               "place of a refused frame");
+    if (next == list.count)
+        expect(at == 0, "place behind all frames");
+    else
+        expect(next < list.count && at < list.sizes[next] && full &&
+                   (next > frame || (next == frame && at > place)),
+               "where the burst goes on");
+}
+
+static uint64_t *lend_burst(struct list list)
+{
+    static const size_t wrong[] = {0, 0, 1, 4095};
+    static const size_t outputs[] = {4096, 4096, 4097, 8192, 20000, 17 * PAGE};
+    lend_read_only(SIZES, list.sizes, list.count * sizeof list.sizes[0]);
+    lend_read_only(OCTETS, list.octets, list.length);
+    lend_any(LONG_OUTPUT, once_in(20) ? PICK(wrong) : PICK(outputs));
+    lend_any(LENGTHS, BTPU_BURST_BUNDLES * sizeof(uint16_t));
+    lend_any(BUNDLE_NUMBERS, BTPU_BURST_BUNDLES * sizeof(uint64_t));
+    lend_any(PLACES, BTPU_BURST_FRAMES * sizeof(uint32_t));
+    lend_any(REASONS, BTPU_BURST_FRAMES * sizeof(uint32_t));
+    lend_any(RESULT, BTPU_BURST_RESULT * sizeof(uint64_t));
+    return LIST(uint64_t, RESULT);
+}
+
+/* A burst from this frame and place on; the answer is the refusal's number. */
+static uint32_t burst(uint8_t *image, int sound, struct list list, uint64_t frame, uint64_t place)
+{
+    struct area *pool = lend_pool(20), *output = &areas[LONG_OUTPUT];
+    lend(STATE, image, BTPU_RECEIVER_IMAGE);
+    uint64_t *to = lend_burst(list);
+    enter(RECEIVE_BURST);
+    uint32_t number = leave(btpu_receive_burst(
+        areas[STATE].at, pool->at, pool->length, LIST(uint16_t, SIZES), list.count,
+        areas[OCTETS].at, list.length, frame, place, output->at, output->length,
+        LIST(uint16_t, LENGTHS), LIST(uint64_t, BUNDLE_NUMBERS), LIST(uint32_t, PLACES),
+        LIST(uint32_t, REASONS), to));
+    uint32_t first = refusal_of_burst(list, sound, pool->length, output->length);
+    int may_be_bad = first == 0 && (frame != 0 || place != 0);
+    expect(number == first || (may_be_bad && number == BTPU_REFUSED_PLACE), "another refusal");
+    expect(frame < list.count || number != 0 || (frame == list.count && place == 0),
+           "a start behind all frames");
+    if (number != 0)
+        return number;
+    expect_handed_out();
+    expect_goes_on(list, output->length, frame, place);
+    memcpy(pool->before, pool->start, pool->room);
+    memcpy(image, areas[STATE].at, BTPU_RECEIVER_IMAGE);
+    expect(receiver_is_sound(image), "the state left is not sound");
+    return 0;
+}
+
+/* Takes up to 64 frames to their end; bundles go to a list of them, if there is one. A call with too
+   little memory has no effect and is made again. */
+static void take_burst(struct list list, struct bundles *bundles)
+{
+    uint64_t frame = 0, place = 0;
+    while (frame < list.count) {
+        uint32_t number = burst(receiver, 1, list, frame, place);
+        expect(number == 0 || number == BTPU_REFUSED_LENT, "refused");
+        if (number != 0)
+            continue;
+        const uint8_t *from = areas[LONG_OUTPUT].at;
+        for (size_t k = 0; bundles != NULL && k < result(BTPU_BURST_COUNT); k++) {
+            add_bundle(bundles, from, LIST(uint16_t, LENGTHS)[k]);
+            from += LIST(uint16_t, LENGTHS)[k];
+        }
+        frame = result(BTPU_BURST_FRAME);
+        place = result(BTPU_BURST_PLACE);
+    }
+}
+
+/* Takes all frames that were added, by bursts. */
+static void take_frames(struct bundles *bundles)
+{
+    for (size_t k = 0, at = 0; k < frames;) {
+        struct list list = {sizes + k, 0, octets + at, 0};
+        size_t most = within(1, BTPU_BURST_FRAMES);
+        for (; list.count < most && k < frames; k++) {
+            list.count++;
+            list.length += sizes[k];
+        }
+        at += list.length;
+        take_burst(list, bundles);
+    }
+}
+
 /* ---- sender */
 
 static int sender_is_sound(const uint8_t *image)
@@ -475,6 +617,10 @@ static void round_of_link(void)
     for (size_t k = 0, at = 0; k < frames; at += sizes[k++])
         take(octets + at, sizes[k], &arrived);
     expect_placed(arrived.lengths, arrived.count, arrived.joined, arrived.octets);
+    arrived.count = arrived.octets = 0;
+    start_receiver();
+    take_frames(&arrived);
+    expect_placed(arrived.lengths, arrived.count, arrived.joined, arrived.octets);
     expect(record(frames, octets_len, 8 + 2 * frames + octets_len) == 0, "refused");
     expect(open_recording() == 0 && result(BTPU_OPENED_FRAMES) == frames &&
                memcmp(areas[SIZES].at, sizes, frames * sizeof sizes[0]) == 0,
@@ -509,6 +655,31 @@ static void round_of_frames(void)
         else
             take(frame, length, NULL);
     }
+}
+
+/* Frames by hand in bursts, also what is not allowed, from any frame and place. */
+static void round_of_bursts(void)
+{
+    static const uint64_t far[] = {1, 2049, UINT64_C(1) << 32, UINT64_MAX};
+    static const size_t counts[] = {0, 1, 12, 63, 64, 65, 66};
+    static uint8_t frame[LONGEST_FRAME], image[BTPU_RECEIVER_IMAGE];
+    frames = octets_len = 0;
+    for (size_t n = once_in(2) ? PICK(counts) : below(12); n > 0; n--) {
+        size_t length = make_frame(frame, 7);
+        if (octets_len + length <= BTPU_RECORDED_OCTETS)
+            add_frame(frame, length);
+    }
+    struct list list = {sizes, frames, octets, octets_len};
+    uint64_t first = below(frames + 2);
+    uint64_t place = first < frames ? below(sizes[first] + (size_t)2) : below(2);
+    burst(receiver, 1, list, once_in(8) ? PICK(far) : first, once_in(8) ? PICK(far) : place);
+    memcpy(image, receiver, sizeof image);
+    damage(image, once_in(2) ? 12 : sizeof image);
+    burst(image, receiver_is_sound(image), list, 0, 0);
+    if (frames <= BTPU_BURST_FRAMES)
+        take_burst(list, NULL);
+    list.length = once_in(2) ? list.length + 1 : below(list.length + 1);
+    burst(receiver, 1, list, 0, 0);
 }
 
 /* Images with damage: calls refuse them exactly where the checks do. */
@@ -590,7 +761,7 @@ int main(int count, char **arguments)
 {
     static void (*const rounds[])(void) = {round_of_link,   round_of_frames, round_of_frames,
                                            round_of_images, round_of_images, round_of_starts,
-                                           round_of_recordings};
+                                           round_of_recordings, round_of_bursts};
     double end = seconds_now() + (count > 1 ? strtod(arguments[1], NULL) : 2);
     seed = count > 2 ? strtoull(arguments[2], NULL, 10) : 1;
     random_state = seed;

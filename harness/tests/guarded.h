@@ -19,14 +19,14 @@
 #define NUMBERS 25 /* one more than the greatest number of a refusal */
 
 enum function {
-    RECEIVER_START, RECEIVER_CHECK, RECEIVE, SENDER_START, SENDER_CHECK, PLACE, CANCEL, FLUSH,
-    RECORD, RECORDING_OPEN, PLAY, FUNCTIONS
+    RECEIVER_START, RECEIVER_CHECK, RECEIVE, RECEIVE_BURST, SENDER_START, SENDER_CHECK, PLACE,
+    CANCEL, FLUSH, RECORD, RECORDING_OPEN, PLAY, FUNCTIONS
 };
 
 /* What is lent. A pool of the right length has an area of its own, and stays where it is. */
 enum lent {
     STATE, POOL, OTHER_POOL, FRAME, OUTPUT, LONG_OUTPUT, BUNDLE, FRAME_BUFFER, SIZES, OCTETS,
-    RECORDING, LENGTHS, PLACES, REASONS, RESULT, AREAS
+    RECORDING, LENGTHS, BUNDLE_NUMBERS, PLACES, REASONS, RESULT, AREAS
 };
 
 #define BIT(number) (UINT32_C(1) << (number))
@@ -40,6 +40,8 @@ static const struct {
     {"btpu_receiver_check", BIT(1), 0},
     {"btpu_receive", BIT(1) | BIT(2) | BIT(3) | BIT(4) | BIT(6) | BIT(7) | BIT(8) | BIT(9),
      BIT(OTHER_POOL) | BIT(FRAME) | BIT(OUTPUT)},
+    {"btpu_receive_burst", BIT(1) | BIT(2) | BIT(3) | BIT(9) | BIT(19),
+     BIT(OTHER_POOL) | BIT(SIZES) | BIT(OCTETS) | BIT(LONG_OUTPUT)},
     {"btpu_sender_start", BIT(14), 0},
     {"btpu_sender_check", BIT(1), 0},
     {"btpu_place", BIT(1) | BIT(10) | BIT(11) | BIT(12), BIT(BUNDLE) | BIT(FRAME_BUFFER)},
@@ -76,6 +78,7 @@ static struct area areas[AREAS] = {
     {.name = "octets", .room = 17 * PAGE},
     {.name = "recording", .room = 17 * PAGE},
     {.name = "lengths", .room = 8 * PAGE},
+    {.name = "numbers", .room = PAGE},
     {.name = "places", .room = 2 * PAGE},
     {.name = "reasons", .room = 2 * PAGE},
     {.name = "result", .room = PAGE},

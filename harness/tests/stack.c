@@ -88,6 +88,19 @@ static void *receive(void *unused)
     return unused;
 }
 
+static void *receive_burst(void *unused)
+{
+    static uint64_t numbers[BTPU_BURST_BUNDLES], taken[BTPU_BURST_RESULT];
+    expect(btpu_receiver_start(board) == 0, "receiver_start");
+    expect(btpu_receive_burst(board, pool, sizeof pool, sizes, frames, joined, joined_len, 0, 0,
+                              output, sizeof output, lengths, numbers, places, reasons,
+                              taken) == 0,
+           "receive_burst");
+    expect(taken[BTPU_BURST_COUNT] == BUNDLES && taken[BTPU_BURST_REFUSED] == REFUSED,
+           "what a burst took");
+    return unused;
+}
+
 static void *start_sender(void *unused)
 {
     expect(btpu_sender_start(sender, FRAME_SIZE, 0) == 0, "sender_start");
@@ -183,7 +196,8 @@ int main(void)
         size_t most;
     } calls[] = {
         {"receiver_start", start_receiver, BTPU_STACK}, {"receive", receive, BTPU_STACK},
-        {"receiver_check", check_receiver, BTPU_STACK}, {"sender_start", start_sender, BTPU_STACK},
+        {"receiver_check", check_receiver, BTPU_STACK}, {"receive_burst", receive_burst, BTPU_STACK},
+        {"sender_start", start_sender, BTPU_STACK},
         {"place", place, BTPU_STACK},                   {"sender_check", check_sender, BTPU_STACK},
         {"cancel", cancel, BTPU_STACK},                 {"flush", flush, BTPU_STACK},
         {"record", record, BTPU_STACK},                 {"recording_open", open_recording, BTPU_STACK},

@@ -348,7 +348,7 @@ function drawStatus(now) {
 
 /**
  * @param {Date} date
- * @returns {string} as in Monday 2 March 2026
+ * @returns {string} weekday, day, month and year
  */
 function dayOf(date) {
   const weekday = date.toLocaleDateString('en', { weekday: 'long' });

@@ -13,6 +13,14 @@ export interface Bundle {
   octets: Uint8Array;
 }
 
+/** What came out of a list of frames. */
+export interface Received {
+  /** The bundles, in the order in which they were handed out. */
+  bundles: Bundle[];
+  /** The frames that were refused: the place of each in the list, from 0, and why. */
+  refused: { frame: number; number: number; words: string }[];
+}
+
 /** Why a frame was refused. */
 export interface Refusal {
   /** The number of btpu.h: 1 to 9. */
@@ -77,6 +85,8 @@ export const SIZES: Readonly<{
   output: 4096;
   bundle: 4096;
   frame: 2048;
+  burstFrames: 64;
+  burstBundles: 256;
   recording: 63496;
   recordedFrames: 1024;
   recordedOctets: 61440;
@@ -97,7 +107,7 @@ export class RefusalError extends Error {
 /** The module trapped. What trapped can't be used again: make a new one, and restore what was saved last. */
 export class TrapError extends Error {
   constructor(message: string, cause: unknown);
-  /** Bundles that the same frame had handed out before the trap. */
+  /** Bundles handed out before the trap: by the same frame, or by the bursts of the same list that had come to their answer. */
   bundles: Bundle[];
 }
 
@@ -108,6 +118,7 @@ export class Receiver {
   get broken(): boolean;
   restart(): void;
   receive(frame: Octets): { bundles: Bundle[]; refusal: Refusal | null };
+  receiveAll(frames: Iterable<Octets>): Received;
   window(): Window;
   save(): SavedReceiver;
   restore(saved: { image: Octets; pool: Octets }): void;

@@ -6,6 +6,7 @@
  *     import { Receiver } from './btpu.mjs';
  *     const receiver = await Receiver.create();               // loads btpu.wasm from beside this file
  *     const { bundles, refusal } = receiver.receive(frame);   // a frame: a Uint8Array of 1 to 2,048 octets
+ *     const all = receiver.receiveAll(frames);                // the same for many frames, in fewer calls of the module
  *
  * Each receiver and each sender has an instance of the module, and so memory, of its own: a trap in one touches no other. The
  * module imports nothing and its memory never grows, so no call comes back into this file and no view of the memory goes stale.
@@ -26,6 +27,8 @@ export const SIZES = Object.freeze({
   output: 4096,
   bundle: 4096,
   frame: 2048,
+  burstFrames: 64,
+  burstBundles: 256,
   recording: 63496,
   recordedFrames: 1024,
   recordedOctets: 61440,
@@ -33,13 +36,17 @@ export const SIZES = Object.freeze({
 });
 
 const EXPORTS = [
-  'btpu_receiver_start', 'btpu_receiver_check', 'btpu_receive',
+  'btpu_receiver_start', 'btpu_receiver_check', 'btpu_receive', 'btpu_receive_burst',
   'btpu_sender_start', 'btpu_sender_check', 'btpu_place', 'btpu_cancel', 'btpu_flush',
   'btpu_record', 'btpu_recording_open', 'btpu_play',
 ];
 const FINISHED = 0;
 const NO_NUMBER = 2 ** 32;
 const PLACED = 0, PLACED_AND_READY = 1, READY = 2;
+/** Octets lent for the bundles of a burst: 16 times what one bundle may have. */
+const BURST_OUTPUT = 65536;
+/** Octets of the result of a burst; the other results are shorter. */
+const RESULT = 40;
 
 /** @type {Readonly<Record<number, string>>} */
 const WORDS = Object.freeze({
@@ -103,7 +110,7 @@ export class TrapError extends Error {
     super(message, { cause });
     this.name = 'TrapError';
     /**
-     * Bundles that the same frame had handed out before the trap.
+     * Bundles handed out before the trap: by the same frame, or by the bursts of the same list that had come to their answer.
      * @type {Bundle[]}
      */
     this.bundles = [];
@@ -193,6 +200,13 @@ function cut(octets, lengths) {
   return parts;
 }
 
+/**
+ * @param {number} number as the library tells it
+ * @param {Uint8Array} octets
+ * @returns {Bundle}
+ */
+const bundleOf = (number, octets) => ({ number: number === NO_NUMBER ? null : number, octets });
+
 /** One instance of the module and the memory that it is lent. */
 class Machine {
   /** @type {Record<string, any>} */ #exports;
@@ -211,7 +225,7 @@ class Machine {
     const base = this.#exports.__heap_base.value;
     this.#pointer = typeof base === 'bigint' ? BigInt : Number; // of a wasm64 module addresses are BigInt
     this.#free = Number(base);
-    this.#result = this.lend(32);
+    this.#result = this.lend(RESULT);
   }
 
   /**
@@ -236,6 +250,32 @@ class Machine {
 
   get resultPointer() {
     return this.#result.pointer;
+  }
+
+  /**
+   * The first entries of a list.
+   * @param {Lent} lent
+   * @param {2 | 4 | 8} octets of an entry; all entries are below 2 to the 53
+   * @param {number} count
+   */
+  list({ at }, octets, count) {
+    const view = this.view, entries = [];
+    for (let k = at; k < at + octets * count; k += octets) {
+      if (octets === 8) entries.push(Number(view.getBigUint64(k, true)));
+      else entries.push(octets === 2 ? view.getUint16(k, true) : view.getUint32(k, true));
+    }
+    return entries;
+  }
+
+  /**
+   * Frames refused, as two lists tell of them.
+   * @param {Lent} places
+   * @param {Lent} reasons
+   * @param {number} count
+   */
+  refused(places, reasons, count) {
+    const numbers = this.list(reasons, 4, count);
+    return this.list(places, 4, count).map((frame, k) => ({ frame, number: numbers[k], words: words(numbers[k]) }));
   }
 
   get broken() {
@@ -305,6 +345,7 @@ export class Receiver {
   /** @type {Lent} */ #pool;
   /** @type {Lent} */ #frame;
   /** @type {Lent} */ #output;
+  /** @type {Record<'sizes' | 'octets' | 'output' | 'lengths' | 'numbers' | 'places' | 'reasons', Lent>} */ #burst;
 
   /**
    * @param {Source} [source] as for load
@@ -321,6 +362,15 @@ export class Receiver {
     this.#pool = machine.lend(SIZES.pool);
     this.#frame = machine.lend(SIZES.frame + 1);
     this.#output = machine.lend(SIZES.output);
+    this.#burst = {
+      sizes: machine.lend(2 * SIZES.burstFrames),
+      octets: machine.lend((SIZES.frame + 1) * SIZES.burstFrames),
+      output: machine.lend(BURST_OUTPUT),
+      lengths: machine.lend(2 * SIZES.burstBundles),
+      numbers: machine.lend(8 * SIZES.burstBundles),
+      places: machine.lend(4 * SIZES.burstFrames),
+      reasons: machine.lend(4 * SIZES.burstFrames),
+    };
     this.restart();
   }
 
@@ -349,25 +399,72 @@ export class Receiver {
     /** @type {Bundle[]} */ const bundles = [];
     let place = 0;
     do {
-      const returned = this.#call(length, place, bundles);
+      const returned = this.#call('btpu_receive', bundles, this.#frame.pointer, BigInt(length), BigInt(place),
+        this.#output.pointer, BigInt(SIZES.output));
       if (returned !== 0) return { bundles, refusal: refusalOf(returned) };
       if (this.#machine.result(0) === FINISHED) break;
-      const number = this.#machine.result(3);
-      bundles.push({ number: number === NO_NUMBER ? null : number, octets: this.#output.octets.slice(0, this.#machine.result(1)) });
+      bundles.push(bundleOf(this.#machine.result(3), this.#output.octets.slice(0, this.#machine.result(1))));
       place = this.#machine.result(2);
     } while (place < length); // a call at the frame's end treats nothing
     return { bundles, refusal: null };
   }
 
   /**
-   * @param {number} length
-   * @param {number} place
-   * @param {Bundle[]} bundles
+   * Takes frames to their ends, one after another, with the same result as `receive` for each of them, in fewer calls of the module.
+   * If there is anything but frames among them, none is taken.
+   * @param {Iterable<Octets>} frames
+   * @returns {import('./btpu.mjs').Received}
    */
-  #call(length, place, bundles) {
+  receiveAll(frames) {
+    this.#machine.usable();
+    /** @type {Uint8Array[]} */ const list = [];
+    // Copied, since the frames may come one after another in the same buffer. A frame that is too long goes with 2,049 of its octets,
+    // and is refused with 3 for that.
+    for (const frame of frames) list.push(new Uint8Array(octetsOf(frame, 'a frame').subarray(0, SIZES.frame + 1)));
+    /** @type {import('./btpu.mjs').Received} */ const received = { bundles: [], refused: [] };
+    for (let first = 0; first < list.length; first += SIZES.burstFrames) {
+      this.#receiveBurst(list.slice(first, first + SIZES.burstFrames), first, received);
+    }
+    return received;
+  }
+
+  /**
+   * Takes a burst to its end: each call goes on where the one before stopped.
+   * @param {Uint8Array[]} frames
+   * @param {number} first the place of the first of them in the list
+   * @param {import('./btpu.mjs').Received} received
+   */
+  #receiveBurst(frames, first, { bundles, refused }) {
+    const machine = this.#machine, { sizes, octets, output, lengths, numbers, places, reasons } = this.#burst;
+    let total = 0, frame = 0, place = 0;
+    frames.forEach((given, k) => {
+      machine.view.setUint16(sizes.at + 2 * k, given.length, true);
+      octets.octets.set(given, total);
+      total += given.length;
+    });
+    do {
+      const returned = this.#call('btpu_receive_burst', bundles, sizes.pointer, BigInt(frames.length), octets.pointer, BigInt(total),
+        BigInt(frame), BigInt(place), output.pointer, BigInt(BURST_OUTPUT),
+        lengths.pointer, numbers.pointer, places.pointer, reasons.pointer);
+      if (returned !== 0) throw new RefusalError(returned);
+      const [count, , next, nextPlace, passed] = [0, 1, 2, 3, 4].map((entry) => machine.result(entry));
+      const named = machine.list(numbers, 8, count);
+      cut(output.octets, machine.list(lengths, 2, count)).forEach((bundle, k) => bundles.push(bundleOf(named[k], bundle)));
+      for (const one of machine.refused(places, reasons, passed)) refused.push({ ...one, frame: first + one.frame });
+      [frame, place] = [next, nextPlace];
+    } while (frame < frames.length);
+  }
+
+  /**
+   * Calls a function with image, pool, words and result. If it traps, the error carries the bundles handed out before.
+   * @param {string} name
+   * @param {Bundle[]} bundles
+   * @param {(number | bigint)[]} words
+   */
+  #call(name, bundles, ...words) {
+    const machine = this.#machine;
     try {
-      return this.#machine.call('btpu_receive', this.#image.pointer, this.#pool.pointer, BigInt(SIZES.pool), this.#frame.pointer,
-        BigInt(length), BigInt(place), this.#output.pointer, BigInt(SIZES.output), this.#machine.resultPointer);
+      return machine.call(name, this.#image.pointer, this.#pool.pointer, BigInt(SIZES.pool), ...words, machine.resultPointer);
     } catch (e) {
       if (e instanceof TrapError) e.bundles = bundles;
       throw e;
@@ -496,7 +593,7 @@ export class Sender {
     const length = Math.min(octets.length, SIZES.bundle + 1);
     this.#bundle.octets.set(octets.subarray(0, length));
     const { placed, frame } = this.#call('btpu_place', this.#bundle.pointer, BigInt(length));
-    this.#begun = this.begun ? begun ?? octets.slice() : null;
+    this.#begun = this.begun ? begun ?? new Uint8Array(octets) : null; // a copy, of a Buffer too
     return { ended: placed && !this.begun, frame };
   }
 
@@ -616,7 +713,7 @@ export class Recorder {
     const length = this.#take(recording);
     this.#machine.must('btpu_recording_open', this.#recording.pointer, BigInt(length), this.#sizes.pointer, this.#machine.resultPointer);
     const [frames, octets, start] = [0, 1, 2].map((entry) => this.#machine.result(entry));
-    return cut(this.#recording.octets.subarray(start, start + octets), this.#list(this.#sizes, 2, frames));
+    return cut(this.#recording.octets.subarray(start, start + octets), this.#machine.list(this.#sizes, 2, frames));
   }
 
   /**
@@ -634,11 +731,10 @@ export class Recorder {
     machine.must('btpu_play', this.#recording.pointer, BigInt(length), most, this.#pool.pointer, BigInt(SIZES.pool),
       this.#output.pointer, BigInt(SIZES.recordedOctets), this.#lengths.pointer, BigInt(SIZES.playedBundles),
       this.#places.pointer, BigInt(SIZES.recordedFrames), this.#reasons.pointer, BigInt(SIZES.recordedFrames), machine.resultPointer);
-    const places = this.#list(this.#places, 4, machine.result(3)), reasons = this.#list(this.#reasons, 4, machine.result(3));
     return {
       messages: machine.result(0),
-      bundles: cut(this.#output.octets, this.#list(this.#lengths, 2, machine.result(1))),
-      refused: places.map((frame, k) => ({ frame, number: reasons[k], words: words(reasons[k]) })),
+      bundles: cut(this.#output.octets, machine.list(this.#lengths, 2, machine.result(1))),
+      refused: machine.refused(this.#places, this.#reasons, machine.result(3)),
     };
   }
 
@@ -650,17 +746,5 @@ export class Recorder {
     const length = Math.min(octets.length, SIZES.recording + 1);
     this.#recording.octets.set(octets.subarray(0, length));
     return length;
-  }
-
-  /**
-   * The first entries of a list.
-   * @param {Lent} lent
-   * @param {2 | 4} octets of an entry
-   * @param {number} count
-   */
-  #list(lent, octets, count) {
-    const view = this.#machine.view;
-    const entry = (/** @type {number} */ at) => (octets === 2 ? view.getUint16(at, true) : view.getUint32(at, true));
-    return Array.from({ length: count }, (_, k) => entry(lent.at + octets * k));
   }
 }

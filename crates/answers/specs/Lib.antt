@@ -1,2 +1,3 @@
 pub mod Receiver
+pub mod Burst
 pub mod Sender

@@ -2,6 +2,7 @@
 use mathlib.Core.Path.{_≡_, refl}
 use mathlib.Core.Bool.{Bool, true, false, cond}
 use mathlib.Core.List.{List}
+use mathlib.Core.Option.{Option, none, some}
 use Prim.Native.Nat.{ℕ}
 use Rattle.wire.specs.Frame.{Item}
 use Rattle.window.specs.Window.{windowSize}
@@ -13,6 +14,10 @@ use Rattle.sender.specs.Answers as Answered
 use Rattle.sender.specs.Answers.{isRefusal, StartReply, made}
 use Rattle.sender.specs.Calls as Calls
 use Rattle.sender.proofs.Refusals.{place-refused, cancel-refused, flush-refused}
+use Rattle.burst.specs.declared.Refusal.{Refusal}
+use Rattle.burst.specs.Burst as Spec
+use Rattle.burst.specs.Burst.{Lists}
+use Rattle.burst.proofs.Refusals.{refused as burst-refused, treated as burst-treated}
 use Rattle.recording.specs.declared.Writing.{Writing}
 use Rattle.recording.specs.declared.Writing.the-variants.{Written, Refused}
 use Rattle.recording.specs.Recording as Recording
@@ -26,8 +31,11 @@ use Rattle.playback.proofs.Refusals.{play-refused}
 use Rattle.images.specs.Receiver.{isImage, stateOf}
 use Rattle.images.specs.Sender as Images
 use Rattle.answers.specs.Receiver.{status, report, kept}
+use Rattle.answers.specs.Burst as Answered-burst
 use Rattle.answers.specs.Sender as Answers
 use Rattle.board.specs.Receiver.{Exported, exported, received}
+use Rattle.board.specs.Burst as Bursts
+use Rattle.board.specs.Burst.{burst}
 use Rattle.board.specs.Sender as Sending
 use Rattle.board.specs.Sender.{unlessImage, placedBy, cancelledBy, flushedBy, startedWith, started}
 use Rattle.board.specs.Recordings.{Recorded, written, recorded, Opened, openedAs, opened, Played, playedAs, played}
@@ -60,6 +68,26 @@ module _ (image pool frame : List ℕ) (place : ℕ) (output result : List ℕ) 
       go false c n = refl
       go true (denied q e) n = rw e
       go true (treated e) n = absurd (n (rw e (treat-status (treating draft02 windowSize b is output))))
+
+-- ---- the burst
+
+module _ (image pool sizes octets : List ℕ) (frame place : ℕ) (l : Lists) (result : List ℕ) where
+  abbrev BurstUnchanged : Bursts.Exported → Type 0
+  BurstUnchanged e = (e .status ≡ 0 → ⊥) → e ≡ record { status = e .status; image = image; pool = pool; lists = l; result = result }
+
+  abbrev on : Board
+  on = record { state = stateOf image; pool = pool }
+
+  burst-unchanged : BurstUnchanged (burst image pool sizes octets frame place l result)
+  unfolding burst Bursts.exported Answered-burst.report Answered-burst.kept
+  burst-unchanged = go (isImage image) (Spec.refusal draft02 windowSize on sizes octets frame place (l .output)) refl
+    where
+      go : (i : Bool) (q : Option Refusal) → Spec.refusal draft02 windowSize on sizes octets frame place (l .output) ≡ q
+          → BurstUnchanged (cond i (Bursts.exported (Spec.receiveBurst draft02 windowSize on sizes octets frame place l) image result)
+          (record { status = 1; image = image; pool = pool; lists = l; result = result }))
+      go false q e n = refl
+      go true (some q) e n = rw (burst-refused draft02 windowSize on sizes octets frame place l q e)
+      go true none e n = absurd (n (rw (burst-treated draft02 windowSize on sizes octets frame place l e)))
 
 -- ---- the sender
 
@@ -117,6 +145,7 @@ unfolding started placedBy cancelledBy flushedBy recorded opened played
 refused-unchanged =
     record {
       receive = receive-unchanged;
+      receiveBurst = burst-unchanged;
       senderStart = λ image size first. start-unchanged image (Calls.start size first);
       place = λ image bundle frame result. outcome-unchanged image frame result _ λ e. place-refused (Images.stateOf image) bundle frame e .1;
       cancel = λ image frame result. outcome-unchanged image frame result _ λ e. cancel-refused (Images.stateOf image) frame e .1;

@@ -1,4 +1,5 @@
 pub mod Receiver
+pub mod Burst
 pub mod Sender
 pub mod Recordings
 pub mod Refused

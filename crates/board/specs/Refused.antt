@@ -6,6 +6,9 @@ use Prim.Native.Nat.{ℕ}
 use Rattle.playback.specs.Call.{Results}
 use Rattle.board.specs.Receiver as Receiver
 use Rattle.board.specs.Receiver.{received}
+use Rattle.burst.specs.Burst.{Lists}
+use Rattle.board.specs.Burst as Bursts
+use Rattle.board.specs.Burst.{burst}
 use Rattle.board.specs.Sender as Sender
 use Rattle.board.specs.Sender.{placedBy, cancelledBy, flushedBy, started}
 use Rattle.board.specs.Recordings.{Recorded, recorded, Opened, opened, Played, played}
@@ -22,6 +25,10 @@ pub record RefusedUnchanged : Type 0 where
   pub receive : (image pool frame : List ℕ) (place : ℕ) (output result : List ℕ)
       → let e : Receiver.Exported = received image pool frame place output result in
       (e .status ≡ 0 → ⊥) → e ≡ record { status = e .status; image = image; pool = pool; output = output; result = result }
+  -- btpu_receive_burst
+  pub receiveBurst : (image pool sizes octets : List ℕ) (frame place : ℕ) (l : Lists) (result : List ℕ)
+      → let e : Bursts.Exported = burst image pool sizes octets frame place l result in
+      (e .status ≡ 0 → ⊥) → e ≡ record { status = e .status; image = image; pool = pool; lists = l; result = result }
   -- btpu_sender_start
   pub senderStart : (image : List ℕ) (size first : ℕ)
       → let e : ℕ × List ℕ = started image size first in

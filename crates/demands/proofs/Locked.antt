@@ -20,6 +20,7 @@ use Rattle.receiver.specs.declared.Answer.the-variants.{Delivered, Finished, Re
 use Rattle.receiver.specs.Receive.{receive}
 use Rattle.receiver.proofs.Bounds.{refused-for}
 use Rattle.receiver.proofs.Refusals.{sound-not-one}
+use Rattle.burst.specs.Burst.{receiveBurst}
 use Rattle.framing.specs.declared.State.{State}
 use Rattle.framing.specs.Answers.{Reply, placed, placedAndReady, ready, nothing, refused}
 use Rattle.sender.specs.Answers.{firstOf, replyNumber}
@@ -35,14 +36,16 @@ use Rattle.answers.specs.Sender.{status}
 use Rattle.answers.proofs.Codes.{number-back}
 use Rattle.board.specs.Receiver as Receiving
 use Rattle.board.specs.Receiver.{received}
+use Rattle.board.specs.Burst.{burst}
 use Rattle.board.specs.Sender as Sending
 use Rattle.claims.specs.Use.{Call, toPlace, toCancel, toFlush, outcomeOf}
 use Rattle.demands.specs.Boards as Boards
 use Rattle.demands.specs.Senders as Senders
 use Rattle.demands.specs.Senders.{callOf}
-use Rattle.demands.specs.Demands.{NeverLockedOut}
+use Rattle.demands.specs.Demands.{NeverLockedOut, ExportedBursts}
 use Rattle.demands.proofs.Images as Images
 use Rattle.demands.proofs.Images.{with, fits, fresh-good, call-good}
+use Rattle.demands.proofs.Bursts as Bursts
 use Rattle.demands.proofs.Senders as Sent
 
 -- ---- the receiver
@@ -61,6 +64,13 @@ receiver-on (Boards.called {image} pool frame place output result low u) =
       state = receive draft02 windowSize (with (k .state) pool) frame place output .board .state;
       on = ap (λ (i : List ℕ). received i pool frame place output result .image) (k .on) ∙ Images.image-left (k .state) (k .good) pool frame place output result;
       good = call-good (k .state) (k .good) pool frame place output low;
+    }
+receiver-on (Boards.burst {image} pool sizes octets frame place l result low short long u) =
+    let k = receiver-on u in
+    record {
+      state = receiveBurst draft02 windowSize (with (k .state) pool) sizes octets frame place l .board .state;
+      on = ap (λ (i : List ℕ). burst i pool sizes octets frame place l result .image) (k .on) ∙ Bursts.image-left (k .state) (k .good) pool sizes octets frame place l result;
+      good = Bursts.burst-good (k .state) (k .good) pool sizes octets frame place l result low short long;
     }
 
 receiver-sound : (s : Row.State) → Images.Good s → Receiving.checked (Receiver.imageOf s) ≡ 0
@@ -131,6 +141,14 @@ never-locked-out =
     record {
       receiver = λ image u. let k = receiver-on u in rw (k .on) (receiver-sound (k .state) (k .good));
       receive = λ image u. let k = receiver-on u in rw (k .on) (receive-taken (k .state) (k .good));
+      receiveBurst = λ image u pool sizes octets frame place l result. let k = receiver-on u in rw (k .on) (Bursts.burst-taken (k .state) (k .good) pool sizes octets frame place l result);
       sender = λ image u. let k = sender-on u in rw (k .on) (sender-sound (k .state) (k .good));
       send = λ image u. let k = sender-on u in rw (k .on) (send-taken (k .state) (k .good));
     }
+
+-- request E3, exported: each image reached is that of a state, and a burst on it is the burst on the state
+pub exported-bursts : ExportedBursts
+exported-bursts image u pool sizes octets k place l result low short long =
+    let o = receiver-on u in
+    let back : Receiver.stateOf (Receiver.imageOf (o .state)) ≡ o .state = ReceiverImages.state-back (o .state) (fits (o .state) (o .good)) in
+    rw (o .on, back) (Bursts.burst-same (o .state) (o .good) pool sizes octets k place l result low short long)

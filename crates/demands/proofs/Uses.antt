@@ -1,12 +1,12 @@
 -- The use of claims/proofs/Uses.antt by exported calls, computed: what demand 2 asks for can be met, and both its bundles arrive.
 use mathlib.Core.Path.{_≡_, refl}
 use mathlib.Core.Bool.{false≢true}
-use mathlib.Core.List.{List, [], _∷_, _++_, map}
+use mathlib.Core.List.{List, [], _∷_, map}
 use Prim.Native.Nat.{ℕ, zero, suc, _<_}
 use native.Mathlib.Omega.{arith}
 use lib.ListN.{replicate}
 use Rattle.octets.specs.Octets.{Octets, number, number16, be32, be16, put}
-use Rattle.wire.specs.Message.{bundle, segment, last, cancel, kind, contentLength}
+use Rattle.wire.specs.Message.{cancel, kind, contentLength}
 use Rattle.writing.specs.Written.{header, contentOf, written, piece, padding}
 use Rattle.framing.specs.Placing as Framing
 use Rattle.sender.specs.Answers.{unless}
@@ -21,7 +21,7 @@ use Rattle.claims.specs.Demand3.{delivery}
 use Rattle.claims.specs.Use.{toCancel}
 use Rattle.claims.proofs.Uses.{long, short, frames, bundles}
 use Rattle.demands.specs.Boards.{Board, Fresh, Calls}
-use Rattle.demands.specs.Senders.{answers, taken, finished, callOf, Used, started, placing, cancelling, flushing, refusing, Flushed}
+use Rattle.demands.specs.Senders.{answers, taken, finished, callOf, Used, started, placing, cancelling, refusing, Flushed}
 use Rattle.demands.proofs.Demands.{demand2}
 
 octets-same : (n x : ℕ) → x < 256 → Octets (replicate n x)

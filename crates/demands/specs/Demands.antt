@@ -2,6 +2,7 @@
 use mathlib.Core.Path.{_≡_}
 use mathlib.Core.List.{List, List·Memᴰ}
 use Prim.Native.Nat.{ℕ, _-_, _<_, _^_}
+use lib.ListN.{getD}
 use Rattle.octets.specs.Octets.{Octets}
 use Rattle.window.specs.Window.{windowSize}
 use Rattle.rows.specs.Message as Rows
@@ -10,6 +11,10 @@ use Rattle.images.specs.Receiver as Receiver
 use Rattle.images.specs.Sender as Sender
 use Rattle.answers.specs.Receiver.{numberIn}
 use Rattle.board.specs.Receiver.{received, checked as receiverChecked}
+use Rattle.burst.specs.Burst.{Lists}
+use Rattle.burst.specs.Equal.{Long, Equals}
+use Rattle.board.specs.Burst as Bursts
+use Rattle.board.specs.Burst.{burst}
 use Rattle.board.specs.Sender.{checked as senderChecked}
 use Rattle.claims.specs.Record.{Record}
 use Rattle.claims.specs.Calls as States
@@ -19,7 +24,7 @@ use Rattle.claims.specs.Use.{Call}
 use Rattle.claims.specs.Demand3.{Claim}
 use Rattle.claims.specs.Demand2.{Arrival}
 use Rattle.demands.specs.Boards as Boards
-use Rattle.demands.specs.Boards.{Board, Fresh, Calls}
+use Rattle.demands.specs.Boards.{Board, Fresh, Calls, Sixteen}
 use Rattle.demands.specs.Senders as Senders
 use Rattle.demands.specs.Senders.{Used, Flushed, callOf}
 
@@ -58,5 +63,17 @@ pub record NeverLockedOut : Type 0 where
   pub receiver : (image : List ℕ) → Boards.Reached image → receiverChecked image ≡ 0
   pub receive : (image : List ℕ) → Boards.Reached image → (pool frame : List ℕ) (place : ℕ) (output result : List ℕ)
       → numberIn (received image pool frame place output result .status) ≡ 1 → ⊥
+  pub receiveBurst : (image : List ℕ) → Boards.Reached image → (pool sizes octets : List ℕ) (frame place : ℕ) (l : Lists) (result : List ℕ)
+      → burst image pool sizes octets frame place l result .status ≡ 1 → ⊥
   pub sender : (image : List ℕ) → Senders.Reached image → senderChecked image ≡ 0
   pub send : (image : List ℕ) → Senders.Reached image → (c : Call) (frame result : List ℕ) → callOf c image frame result .status ≡ 1 → ⊥
+
+-- ---- request E3: a burst that returns 0 is single calls, from its start to where its result says that the next call goes on
+
+abbrev pub ExportedBursts : Type 0
+ExportedBursts =
+    (image : List ℕ) → Boards.Reached image → (pool sizes octets : List ℕ) (k place : ℕ) (l : Lists) (result : List ℕ) → Octets octets → Sixteen sizes → Long l
+    → let e : Bursts.Exported = burst image pool sizes octets k place l result in
+    e .status ≡ 0
+    → Equals draft02 windowSize (onState (record { image = image; pool = pool })) sizes octets k place l (onState (record { image = e .image; pool = e .pool })) (e .lists)
+    (getD (e .result) 0 0) (getD (e .result) 1 0) (getD (e .result) 2 0) (getD (e .result) 3 0) (getD (e .result) 4 0)

@@ -1,3 +1,4 @@
 pub mod Boards
 pub mod Senders
+pub mod Batches
 pub mod Demands

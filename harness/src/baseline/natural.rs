@@ -2,6 +2,8 @@
 //! it; pieces by index; the indexes held as bits.
 
 use super::{check, entry, join, read, Entry, Span};
+use crate::model::burst::{Bundles, Notes, Taken, MAX_BUNDLES, MAX_FRAMES};
+use crate::model::interface::NO_NUMBER;
 use crate::model::receiver::{self, Answer, Phase, CELL, MAX_PIECES, ROWS};
 use crate::model::wire::{Message, Piece};
 use crate::model::Refusal;
@@ -215,4 +217,96 @@ impl Receiver {
         }
         Ok(Answer::Finished)
     }
+
+    /// Takes a burst, with one check for each frame.
+    pub fn receive_burst(
+        &mut self,
+        (sizes, octets): (&[u16], &[u8]),
+        (first, mut place): (usize, usize),
+        mut bundles: Bundles,
+        (places, reasons): Notes,
+    ) -> Result<Taken, Refusal> {
+        let mut rest = burst_rest(sizes, octets, (first, place), bundles.0)?;
+        let mut taken = Taken::default();
+        for (number, &size) in sizes.iter().enumerate().skip(first) {
+            let (frame, behind) = rest.split_at(size.into());
+            match check(frame, place as u64) {
+                Ok(()) => {
+                    place = self.take(frame, place, &mut bundles, &mut taken);
+                    if place < frame.len() {
+                        taken.next = (number, place);
+                        return Ok(taken);
+                    }
+                }
+                Err(Refusal::BadPlace) => return Err(Refusal::BadPlace),
+                Err(_) if is_full(&bundles, &taken) => {
+                    taken.next = (number, 0);
+                    return Ok(taken);
+                }
+                Err(refusal) => {
+                    places[taken.refused] = number as u32;
+                    reasons[taken.refused] = refusal.number();
+                    taken.refused += 1;
+                }
+            }
+            place = 0;
+            rest = behind;
+        }
+        taken.next = (sizes.len(), 0);
+        Ok(taken)
+    }
+
+    /// Takes a frame that was checked; the answer is where it stopped, or the frame's length.
+    #[inline]
+    fn take(
+        &mut self,
+        frame: &[u8],
+        mut at: usize,
+        bundles: &mut Bundles,
+        taken: &mut Taken,
+    ) -> usize {
+        while at < frame.len() && taken.bundles < MAX_BUNDLES {
+            let Some(room) = bundles.0[taken.octets..].first_chunk_mut() else {
+                break;
+            };
+            let Ok((message, next)) = read(frame, at) else {
+                unreachable!("the whole frame was checked");
+            };
+            if let Some((length, number)) = self.treat(message, room) {
+                bundles.1[taken.bundles] = length as u16;
+                bundles.2[taken.bundles] = number.map_or(NO_NUMBER, u64::from);
+                taken.bundles += 1;
+                taken.octets += length;
+            }
+            at = next;
+        }
+        at
+    }
+}
+
+fn is_full(bundles: &Bundles, taken: &Taken) -> bool {
+    taken.bundles == MAX_BUNDLES || bundles.0.len() - taken.octets < CELL
+}
+
+/// The octets from the first frame on, if nothing is wrong with the list as a whole.
+fn burst_rest<'a>(
+    sizes: &[u16],
+    octets: &'a [u8],
+    (first, place): (usize, usize),
+    output: &[u8],
+) -> Result<&'a [u8], Refusal> {
+    let sum = |sizes: &[u16]| sizes.iter().map(|&size| usize::from(size)).sum::<usize>();
+    if output.len() < CELL {
+        return Err(Refusal::PoolOrOutputSize);
+    }
+    if sizes.len() > MAX_FRAMES {
+        return Err(Refusal::FrameLength);
+    }
+    if sum(sizes) != octets.len() {
+        return Err(Refusal::OctetCount);
+    }
+    if first > sizes.len() || first == sizes.len() && place != 0 {
+        return Err(Refusal::BadPlace);
+    }
+    Ok(&octets[sum(&sizes[..first])..])
 }

@@ -9,8 +9,8 @@ use std::hint::black_box;
 use std::time::Instant;
 
 use btpu::raw::{
-    self, MIN_OUTPUT, PLAYED_BUNDLES, POOL, RECEIVER_IMAGE, RECORDED_FRAMES, RECORDED_OCTETS,
-    SENDER_IMAGE,
+    self, BurstBundles, BurstNotes, BURST_BUNDLES, BURST_FRAMES, BURST_RESULT, MIN_OUTPUT,
+    PLAYED_BUNDLES, POOL, RECEIVER_IMAGE, RECORDED_FRAMES, RECORDED_OCTETS, SENDER_IMAGE,
 };
 use harness::baseline::{inplace, natural};
 use harness::generate::{self, BUNDLE};
@@ -20,6 +20,9 @@ use harness::random::Random;
 const ROUNDS: usize = 31;
 const ROUND_SECONDS: f64 = 0.004;
 const FRAME: usize = 2048;
+
+/// Enough for as many bundles as a burst hands out.
+const BURST_OUTPUT: usize = BURST_BUNDLES * MIN_OUTPUT;
 
 /// What a run did, so that the sides can be compared and the time be divided.
 #[derive(Clone, Copy, Debug, Default, PartialEq, Eq)]
@@ -58,6 +61,17 @@ struct Baselines<'a> {
     natural: Side<'a>,
 }
 
+/// A workload of bursts. Single calls and bursts of the exported interface, the model behind an image, and
+/// single calls and bursts of the natural receiver; all times are those per message.
+struct BurstWorkload<'a> {
+    name: &'static str,
+    burst: Side<'a>,
+    single: Side<'a>,
+    model: Side<'a>,
+    natural: Side<'a>,
+    natural_single: Side<'a>,
+}
+
 /// A workload of calls that have no state: exported, and the model.
 struct RecordingWorkload<'a> {
     name: &'static str,
@@ -71,8 +85,8 @@ fn main() {
         .map_or(ROUNDS, |rounds| rounds.parse().expect("number of rounds"));
     let mut random = Random::new(1);
     let full = full_image(&mut random);
-    let small_bundles = Reception::of(small_bundle_frames(&mut random));
-    let small_pieces = Reception::of(small_piece_frames(&mut random));
+    let small_bundles = Reception::of(small_bundle_frames(&mut random, 4 * 170));
+    let small_pieces = Reception::of(small_piece_frames(&mut random, 8));
     let large_pieces = Reception::of(large_piece_frames(&mut random));
     let passed = Reception::of(passed_frames(&mut random));
     let hints = Reception::of(hint_frames(&mut random));
@@ -130,10 +144,50 @@ fn main() {
     for workload in workloads {
         measure(workload, rounds);
     }
+    measure_bursts(&mut random, rounds);
     measure_recordings(&mut random, rounds);
 }
 
-/// A second table: calls for recordings, each of 61,440 octets of frames.
+/// A table of its own: 64 frames in bursts.
+fn measure_bursts(random: &mut Random, rounds: usize) {
+    let bundles = Reception::of(small_bundle_frames(random, BURST_FRAMES * 170));
+    let pieces = Reception::of(small_piece_frames(random, 17));
+    let large = Reception::of([large_piece_frames(random), large_piece_frames(random)].concat());
+    for reception in [&bundles, &pieces, &large] {
+        assert_eq!(reception.frames.len(), BURST_FRAMES);
+    }
+    let workloads = [
+        bursts("burst: 64 frames of bundles of 8 octets", &bundles),
+        bursts("burst: 64 frames of pieces of 4 octets", &pieces),
+        bursts("burst: 64 frames of one piece of 2,036 octets", &large),
+    ];
+    println!();
+    println!(
+        "| workload | messages | bursts, ns/message | single calls | Rust, image, bursts \
+         | natural, bursts | natural, single calls | ratio to single calls | ratio to image \
+         | ratio to natural bursts | ratio to natural single calls |"
+    );
+    println!("|---|---:|---:|---:|---:|---:|---:|---:|---:|---:|---:|");
+    for workload in workloads {
+        let name = workload.name;
+        let sides = [
+            workload.burst,
+            workload.single,
+            workload.model,
+            workload.natural,
+            workload.natural_single,
+        ];
+        let (messages, times) = timed(name, sides, rounds);
+        let [burst, others @ ..] = &times;
+        let medians = times.iter().map(|times| median(times.clone()));
+        let medians: String = medians.map(|time| format!("| {time:.1} ")).collect();
+        let ratios = others.iter().map(|other| ratio(burst, other));
+        let ratios: String = ratios.map(|ratio| format!("| {ratio:.3} ")).collect();
+        println!("| {name} | {messages} {medians}{ratios}|");
+    }
+}
+
+/// A table of its own: calls for recordings, each of 61,440 octets of frames.
 fn measure_recordings(random: &mut Random, rounds: usize) {
     let short = recorded_bundles(random);
     let long = recorded_transfers(random);
@@ -434,6 +488,115 @@ fn natural_side(reception: &Reception) -> impl FnMut() -> Work + '_ {
     }
 }
 
+fn bursts<'a>(name: &'static str, reception: &'a Reception) -> BurstWorkload<'a> {
+    let counts = reception.frames.iter().map(|frame| {
+        let count = generate::message_count(frame);
+        count.expect("a good frame")
+    });
+    let calls: u64 = counts.sum();
+    let by_message =
+        move |mut side: Side<'a>| -> Side<'a> { Box::new(move || Work { calls, ..side() }) };
+    let single = receiving(name, reception);
+    let baselines = single.baselines.expect("those of receiving calls");
+    BurstWorkload {
+        name,
+        burst: by_message(burst_side(reception, raw::receive_burst)),
+        single: by_message(single.exported),
+        model: by_message(burst_side(reception, interface::receive_burst)),
+        natural: by_message(natural_burst_side(reception)),
+        natural_single: by_message(baselines.natural),
+    }
+}
+
+/// The lists that a burst writes to.
+struct Lists {
+    lengths: [u16; BURST_BUNDLES],
+    numbers: [u64; BURST_BUNDLES],
+    places: [u32; BURST_FRAMES],
+    reasons: [u32; BURST_FRAMES],
+}
+
+impl Lists {
+    fn new() -> Lists {
+        Lists {
+            lengths: [0; BURST_BUNDLES],
+            numbers: [0; BURST_BUNDLES],
+            places: [0; BURST_FRAMES],
+            reasons: [0; BURST_FRAMES],
+        }
+    }
+
+    fn lend<'a>(&'a mut self, output: &'a mut [u8]) -> (BurstBundles<'a>, BurstNotes<'a>) {
+        (
+            (output, &mut self.lengths, &mut self.numbers),
+            (&mut self.places, &mut self.reasons),
+        )
+    }
+
+    fn add(&self, work: &mut Work, count: usize, mut output: &[u8]) {
+        for &length in &self.lengths[..count] {
+            let (bundle, behind) = output.split_at(length.into());
+            work.bundle(bundle);
+            output = behind;
+        }
+    }
+}
+
+type BurstCall = fn(
+    &mut [u8; RECEIVER_IMAGE],
+    &mut [u8],
+    (&[u16], &[u8]),
+    (u64, u64),
+    BurstBundles,
+    BurstNotes,
+    &mut [u64; BURST_RESULT],
+) -> u32;
+
+/// Bursts on the image, continued until all frames are taken.
+fn burst_side(reception: &Reception, call: BurstCall) -> Side<'_> {
+    let (sizes, octets) = generate::joined(&reception.frames);
+    let (pool, output) = lent(&reception.pool, BURST_OUTPUT);
+    let mut lists = Lists::new();
+    Box::new(move || {
+        let mut work = Work::default();
+        let mut image = reception.image;
+        let mut from = (0, 0);
+        while from.0 < sizes.len() as u64 {
+            let mut result = [0; BURST_RESULT];
+            let (bundles, notes) = lists.lend(output);
+            let frames = (&sizes[..], &octets[..]);
+            let returned = call(&mut image, pool, frames, from, bundles, notes, &mut result);
+            assert_eq!((returned, result[4]), (0, 0));
+            lists.add(&mut work, result[0] as usize, output);
+            from = (result[2], result[3]);
+        }
+        work
+    })
+}
+
+/// Bursts of the natural receiver.
+fn natural_burst_side(reception: &Reception) -> Side<'_> {
+    let state = receiver::State::decode(&reception.image).expect("a state");
+    let begin = natural::Receiver::restored(&state, &reception.pool);
+    let mut receiver = begin.clone();
+    let (sizes, octets) = generate::joined(&reception.frames);
+    let (_, output) = lent(&[], BURST_OUTPUT);
+    let mut lists = Lists::new();
+    Box::new(move || {
+        let mut work = Work::default();
+        receiver.become_like(&begin);
+        let mut from = (0, 0);
+        while from.0 < sizes.len() {
+            let (bundles, notes) = lists.lend(output);
+            let taken = receiver.receive_burst((&sizes, &octets), from, bundles, notes);
+            let taken = taken.expect("not refused");
+            lists.add(&mut work, taken.bundles, output);
+            from = taken.next;
+        }
+        work
+    })
+}
+
 fn sending<'a>(name: &'static str, frame_size: u64, bundles: &'a [Vec<u8>]) -> Workload<'a> {
     type Image = [u8; SENDER_IMAGE];
     type Start = fn(&mut Image, u64, u32) -> u32;
@@ -577,15 +740,15 @@ fn packed(messages: impl Iterator<Item = Vec<u8>>) -> Vec<Vec<u8>> {
     frames
 }
 
-fn small_bundle_frames(random: &mut Random) -> Vec<Vec<u8>> {
-    packed((0..4 * 170).map(|_| generate::message(BUNDLE, &[], &random.octets(8))))
+fn small_bundle_frames(random: &mut Random, count: usize) -> Vec<Vec<u8>> {
+    packed((0..count).map(|_| generate::message(BUNDLE, &[], &random.octets(8))))
 }
 
-fn small_piece_frames(random: &mut Random) -> Vec<Vec<u8>> {
+fn small_piece_frames(random: &mut Random, groups: u32) -> Vec<Vec<u8>> {
     const TOGETHER: u32 = 8;
     const PIECES: u32 = 60;
     let mut messages = Vec::new();
-    for group in 0..8 {
+    for group in 0..groups {
         let mut own = Vec::new();
         for index in 0..PIECES {
             for transfer in 0..TOGETHER {

@@ -6,14 +6,14 @@ use crate::random::Random;
 use btpu::raw::{self, PLAYED_BUNDLES, POOL, RECORDED_FRAMES, RECORDED_OCTETS};
 
 /// A list lent to both sides, and what it held before.
-struct Both<T> {
+pub(super) struct Both<T> {
     before: Vec<T>,
-    model: Vec<T>,
-    exported: Lent<T>,
+    pub(super) model: Vec<T>,
+    pub(super) exported: Lent<T>,
 }
 
 impl<T: Copy + PartialEq + From<u8>> Both<T> {
-    fn new(before: Vec<T>) -> Both<T> {
+    pub(super) fn new(before: Vec<T>) -> Both<T> {
         Both {
             model: before.clone(),
             exported: Lent::new(&before),
@@ -23,7 +23,7 @@ impl<T: Copy + PartialEq + From<u8>> Both<T> {
 
     /// Checks that the sides agree and that all entries behind those written stay.
     #[track_caller]
-    fn check(&self, trial: &Trial, written: usize, what: &str) {
+    pub(super) fn check(&self, trial: &Trial, written: usize, what: &str) {
         trial.same(&self.model, self.exported.get(), what);
         trial.check(self.exported.guards_stay(), "written past what was lent");
         if self.model[written..] != self.before[written..] {
@@ -32,11 +32,11 @@ impl<T: Copy + PartialEq + From<u8>> Both<T> {
     }
 }
 
-fn shorts(random: &mut Random, count: usize) -> Vec<u16> {
+pub(super) fn shorts(random: &mut Random, count: usize) -> Vec<u16> {
     (0..count).map(|_| random.draw() as u16).collect()
 }
 
-fn words(random: &mut Random, count: usize) -> Vec<u32> {
+pub(super) fn words(random: &mut Random, count: usize) -> Vec<u32> {
     (0..count).map(|_| random.word()).collect()
 }
 

@@ -1,5 +1,6 @@
 //! The model behind the same interface as the exported library: images in, numbers out.
 
+use super::burst;
 use super::playback::{self, Bundles, Notes};
 use super::receiver::{self, Observer};
 use super::recording::{self, Recording, MAX_FRAMES};
@@ -51,6 +52,30 @@ pub fn receive(
                     *result = [1, length as u64, next as u64, number];
                 }
             }
+            state.encode(image);
+            0
+        }
+        Err(refusal) => refusal.returned(),
+    }
+}
+
+pub fn receive_burst(
+    image: &mut [u8; image::RECEIVER],
+    pool: &mut [u8],
+    frames: (&[u16], &[u8]),
+    from: (u64, u64),
+    bundles: burst::Bundles,
+    notes: burst::Notes,
+    result: &mut [u64; 5],
+) -> u32 {
+    let Some(mut state) = receiver::State::decode(image) else {
+        return Refusal::UnsoundState.returned();
+    };
+    match burst::receive_burst(&mut state, pool, frames, from, bundles, notes) {
+        Ok(taken) => {
+            let (frame, place) = taken.next;
+            let entries = [taken.bundles, taken.octets, frame, place, taken.refused];
+            *result = entries.map(|entry| entry as u64);
             state.encode(image);
             0
         }

@@ -316,6 +316,19 @@ pub fn distance(difference: u32) -> Distance {
     }
 }
 
+/// What the receiving call refuses of a frame, and of a place in it.
+#[inline]
+pub fn check_frame(frame: &[u8], place: u64) -> Result<(), Refusal> {
+    if frame.is_empty() || frame.len() > wire::MAX_FRAME {
+        return Err(Refusal::FrameLength);
+    }
+    match wire::check(frame, place) {
+        Ok(true) => Ok(()),
+        Ok(false) => Err(Refusal::BadPlace),
+        Err((fault, at)) => Err(Refusal::Malformed(fault, at)),
+    }
+}
+
 /// The receiving call.
 pub fn receive(
     state: &mut State,
@@ -331,14 +344,7 @@ pub fn receive(
     if pool.len() != POOL || output.len() < MIN_OUTPUT {
         return Err(Refusal::PoolOrOutputSize);
     }
-    if frame.is_empty() || frame.len() > wire::MAX_FRAME {
-        return Err(Refusal::FrameLength);
-    }
-    match wire::check(frame, place) {
-        Ok(true) => {}
-        Ok(false) => return Err(Refusal::BadPlace),
-        Err((fault, at)) => return Err(Refusal::Malformed(fault, at)),
-    }
+    check_frame(frame, place)?;
     let mut at = place as usize;
     while at < frame.len() {
         let Ok((message, next)) = wire::read(frame, at) else {

@@ -78,7 +78,7 @@ mod refusal;
 mod sender;
 mod window;
 
-pub use receiver::{Bundle, Bundles, Receiver};
+pub use receiver::{Bundle, Bundles, Burst, Receiver};
 pub use recording::{Playback, Recording, RefusedFrame};
 pub use refusal::{Refusal, RestoreError};
 pub use sender::{Sender, Sent};

@@ -11,7 +11,7 @@ pub const RECEIVER_IMAGE: usize = 3144;
 pub const SENDER_IMAGE: usize = 24;
 /// Octets of a receiver's pool.
 pub const POOL: usize = 65_536;
-/// Octets of output that [`receive`] asks for at least.
+/// Octets of output that [`receive`] and [`receive_burst`] ask for at least.
 pub const MIN_OUTPUT: usize = 4096;
 /// Octets of a bundle at most.
 pub const MAX_BUNDLE: usize = 4096;
@@ -23,6 +23,12 @@ pub const MIN_FRAME_SIZE: usize = 128;
 pub const MAX_FRAME_SIZE: usize = 2048;
 /// The transfer number of a bundle that came in one message, outside of any transfer.
 pub const NO_NUMBER: u64 = 1 << 32;
+/// Frames of a burst at most.
+pub const BURST_FRAMES: usize = 64;
+/// Bundles that come out of one call of [`receive_burst`] at most.
+pub const BURST_BUNDLES: usize = 256;
+/// Entries of the result of [`receive_burst`].
+pub const BURST_RESULT: usize = 5;
 /// Frames of a recording at most.
 pub const RECORDED_FRAMES: usize = 1024;
 /// Octets of all frames of a recording at most.
@@ -31,6 +37,17 @@ pub const RECORDED_OCTETS: usize = 61_440;
 pub const MAX_RECORDING: usize = 63_496;
 /// Bundles that come out of a playback at most.
 pub const PLAYED_BUNDLES: usize = 15_360;
+
+/// Where the bundles of a burst go: their octets, the length of each, and its transfer number or
+/// [`NO_NUMBER`].
+pub type BurstBundles<'a> = (
+    &'a mut [u8],
+    &'a mut [u16; BURST_BUNDLES],
+    &'a mut [u64; BURST_BUNDLES],
+);
+
+/// Where the refused frames of a burst are noted: their places in the list, and their refusals' numbers.
+pub type BurstNotes<'a> = (&'a mut [u32; BURST_FRAMES], &'a mut [u32; BURST_FRAMES]);
 
 mod exported {
     extern "C" {
@@ -45,6 +62,24 @@ mod exported {
             place: u64,
             output: *mut u8,
             output_len: u64,
+            result: *mut u64,
+        ) -> u32;
+        pub fn btpu_receive_burst(
+            state: *mut u8,
+            pool: *mut u8,
+            pool_len: u64,
+            sizes: *const u16,
+            frames: u64,
+            octets: *const u8,
+            octets_len: u64,
+            frame: u64,
+            place: u64,
+            output: *mut u8,
+            output_len: u64,
+            lengths: *mut u16,
+            numbers: *mut u64,
+            places: *mut u32,
+            reasons: *mut u32,
             result: *mut u64,
         ) -> u32;
         pub fn btpu_sender_start(state: *mut u8, frame_size: u64, first_number: u32) -> u32;
@@ -130,6 +165,40 @@ pub fn receive(
             place,
             output.as_mut_ptr(),
             output.len() as u64,
+            result.as_mut_ptr(),
+        )
+    }
+}
+
+/// Takes up to 64 frames, given by their lengths and joined octets, from a frame and a place in it on.
+/// Refusals: 1, 2, 3, 19, 9.
+#[inline]
+pub fn receive_burst(
+    state: &mut [u8; RECEIVER_IMAGE],
+    pool: &mut [u8],
+    (sizes, octets): (&[u16], &[u8]),
+    (frame, place): (u64, u64),
+    (output, lengths, numbers): BurstBundles,
+    (places, reasons): BurstNotes,
+    result: &mut [u64; BURST_RESULT],
+) -> u32 {
+    unsafe {
+        exported::btpu_receive_burst(
+            state.as_mut_ptr(),
+            pool.as_mut_ptr(),
+            pool.len() as u64,
+            sizes.as_ptr(),
+            sizes.len() as u64,
+            octets.as_ptr(),
+            octets.len() as u64,
+            frame,
+            place,
+            output.as_mut_ptr(),
+            output.len() as u64,
+            lengths.as_mut_ptr(),
+            numbers.as_mut_ptr(),
+            places.as_mut_ptr(),
+            reasons.as_mut_ptr(),
             result.as_mut_ptr(),
         )
     }

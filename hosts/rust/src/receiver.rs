@@ -7,6 +7,10 @@ use crate::raw::{self, MIN_OUTPUT, POOL, RECEIVER_IMAGE};
 use crate::window::Window;
 use crate::{Refusal, RestoreError};
 
+mod burst;
+
+pub use burst::Burst;
+
 /// A bundle that was received.
 #[derive(Clone, Debug, PartialEq, Eq)]
 pub struct Bundle {
@@ -14,6 +18,16 @@ pub struct Bundle {
     pub number: Option<u32>,
     /// What was sent. It may be empty: a receiver takes what the [`Sender`](crate::Sender) here refuses.
     pub octets: Vec<u8>,
+}
+
+impl Bundle {
+    /// A bundle with its number, or [`NO_NUMBER`](raw::NO_NUMBER), as the library gives them.
+    fn handed_out((octets, number): (&[u8], u64)) -> Bundle {
+        Bundle {
+            number: u32::try_from(number).ok(),
+            octets: octets.to_vec(),
+        }
+    }
 }
 
 /// A receiver: frames in, bundles out.
@@ -58,7 +72,8 @@ impl Receiver {
     /// Takes a frame to its end; the answer is all bundles that it completes, in their order.
     ///
     /// A frame has 1 to 2,048 octets. The whole frame is checked first: if a message of it is bad, the
-    /// frame is refused and has no effect at all.
+    /// frame is refused and has no effect at all. Frames that have come together are taken faster by
+    /// [`receive_burst`](Receiver::receive_burst).
     ///
     /// ```
     /// use btpu::{Receiver, Refusal};
@@ -111,10 +126,7 @@ impl Receiver {
         let returned = raw::receive(image, pool, frame, place, &mut output, &mut result);
         Refusal::from_returned(returned)?;
         let [answer, length, next, number] = result;
-        let bundle = || Bundle {
-            number: u32::try_from(number).ok(),
-            octets: output[..length as usize].to_vec(),
-        };
+        let bundle = || Bundle::handed_out((&output[..length as usize], number));
         Ok((answer != 0).then(|| (bundle(), next)))
     }
 

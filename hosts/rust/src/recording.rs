@@ -120,20 +120,28 @@ impl Playback {
     }
 }
 
-/// A frame that a playback refused.
+/// A frame that a playback or a burst refused.
 #[derive(Clone, Copy, Debug, PartialEq, Eq)]
 pub struct RefusedFrame {
-    /// Its place in the recording, from 0.
+    /// Its place in the recording, or in the list of frames, from 0.
     pub place: usize,
-    /// The number of the refusal: 4, 6, 7 or 8.
+    /// The number of the refusal: 4, 6, 7 or 8; in a burst also 3.
     pub number: u32,
 }
 
 impl RefusedFrame {
-    fn noted((place, number): (u32, u32)) -> RefusedFrame {
+    pub(crate) fn noted((place, number): (u32, u32)) -> RefusedFrame {
         RefusedFrame {
             place: place as usize,
             number,
+        }
+    }
+
+    /// The same with so many frames more before it.
+    pub(crate) fn behind(self, frames: usize) -> RefusedFrame {
+        RefusedFrame {
+            place: frames + self.place,
+            ..self
         }
     }
 
@@ -144,7 +152,7 @@ impl RefusedFrame {
 }
 
 /// Octets cut into parts of these lengths.
-fn parts<'a, 's>(
+pub(crate) fn parts<'a, 's>(
     mut octets: &'a [u8],
     lengths: &'s [u16],
 ) -> impl ExactSizeIterator<Item = &'a [u8]> + use<'a, 's> {

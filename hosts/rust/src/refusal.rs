@@ -23,7 +23,7 @@ pub enum Refusal {
     State,
     /// 2: a pool or an output that is lent has not the length asked for.
     Lent,
-    /// 3: a frame of 0 or more than 2,048 octets.
+    /// 3: a frame of 0 or more than 2,048 octets; of a burst in [`raw`](crate::raw), more than 64 frames.
     FrameLength,
     /// 4: fewer than 4 octets are left for a header.
     Header {
@@ -68,7 +68,7 @@ pub enum Refusal {
     OverLimit,
     /// 18: a recorded frame with a length outside 1 to 2,048.
     RecordedLength,
-    /// 19: the octets of a recording are not the sum of the lengths.
+    /// 19: the octets of a recording, or of a burst in [`raw`](crate::raw), are not the sum of the lengths.
     OctetCount,
     /// 20: octets stand behind a recording.
     LeftOver,

@@ -110,13 +110,62 @@ fn sizes_are_those_of_the_header() {
         ("MIN_FRAME_SIZE", raw::MIN_FRAME_SIZE),
         ("MAX_FRAME_SIZE", raw::MAX_FRAME_SIZE),
         ("MAX_RECORDING", raw::MAX_RECORDING),
+        ("BURST_FRAMES", raw::BURST_FRAMES),
+        ("BURST_BUNDLES", raw::BURST_BUNDLES),
+        ("BURST_RESULT", raw::BURST_RESULT),
         ("RECORDED_FRAMES", raw::RECORDED_FRAMES),
         ("RECORDED_OCTETS", raw::RECORDED_OCTETS),
         ("PLAYED_BUNDLES", raw::PLAYED_BUNDLES),
     ];
     for (name, size) in sizes {
         let found = definitions.iter().find(|(defined, _)| *defined == name);
-        assert_eq!(found.expect(name).1, size.to_string(), "{name}");
+        let number = found.expect(name).1.split(' ').next();
+        assert_eq!(number, Some(&size.to_string()[..]), "{name}");
     }
     assert!(definitions.contains(&("NO_NUMBER", &format!("UINT64_C({})", raw::NO_NUMBER))));
+}
+
+/// The types of the parameters of each function that stands behind these words, by its name.
+fn parameters<'a>(
+    text: &'a str,
+    words: &str,
+    of: fn(&str) -> String,
+) -> Vec<(&'a str, Vec<String>)> {
+    let functions = text.split(words).skip(1).map(|function| {
+        let (name, behind) = function.split_once('(').expect("a parameter");
+        let list = behind.split(')').next().expect("an end");
+        let list = list.split(',').filter(|one| !one.trim().is_empty());
+        (name, list.map(of).collect())
+    });
+    functions.collect()
+}
+
+/// The type of a parameter in C, as it is written in Rust.
+fn from_c(parameter: &str) -> String {
+    let words: Vec<&str> = parameter.split_whitespace().collect();
+    let kind = match words[0] {
+        "const" => words[1],
+        kind => kind,
+    };
+    let kind = kind.replace("uint", "u").replace("_t", "");
+    match (parameter.contains(['*', '[']), words[0]) {
+        (false, _) => kind,
+        (true, "const") => format!("*const {kind}"),
+        (true, _) => format!("*mut {kind}"),
+    }
+}
+
+fn from_rust(parameter: &str) -> String {
+    let (_, kind) = parameter.split_once(':').expect("a type");
+    kind.trim().to_string()
+}
+
+#[test]
+fn functions_are_those_of_the_header() {
+    let path = Path::new(env!("CARGO_MANIFEST_DIR")).join("src/raw.rs");
+    let raw = fs::read_to_string(path).expect("src/raw.rs can be read");
+    let text = header();
+    let declared = parameters(&text, "\nuint32_t btpu_", from_c);
+    assert_eq!(declared.len(), 12);
+    assert_eq!(declared, parameters(&raw, "pub fn btpu_", from_rust));
 }

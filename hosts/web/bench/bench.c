@@ -1,5 +1,6 @@
 /*
- * Times the native library on the workloads of a file (work.mjs): nanoseconds for each call, one line for each workload.
+ * Times the native library on the workloads of a file (work.mjs): nanoseconds for each call, of a burst for each frame, one line for
+ * each workload.
  *
  *     bench FILE MILLISECONDS
  */
@@ -11,7 +12,9 @@
 #include <time.h>
 #include "btpu.h"
 
-enum { RECEIVE, PLACE, PLAY };
+#define BURST_OUTPUT 65536
+
+enum { RECEIVE, PLACE, PLAY, BURST };
 
 struct work {
     uint32_t kind, size, count;
@@ -23,7 +26,10 @@ static uint8_t state[BTPU_RECEIVER_IMAGE], pool[BTPU_POOL], frame[BTPU_MAX_FRAME
 static uint8_t sender[BTPU_SENDER_IMAGE], bundle[BTPU_MAX_BUNDLE], recording[BTPU_MAX_RECORDING];
 static uint16_t lengths[BTPU_PLAYED_BUNDLES];
 static uint32_t places[BTPU_RECORDED_FRAMES], reasons[BTPU_RECORDED_FRAMES];
-static uint64_t result[BTPU_RESULT];
+static uint64_t result[BTPU_BURST_RESULT];
+static uint8_t octets[BTPU_BURST_FRAMES * BTPU_MAX_FRAME], burst_output[BURST_OUTPUT];
+static uint16_t sizes[BTPU_BURST_FRAMES];
+static uint64_t numbers[BTPU_BURST_BUNDLES];
 static FILE *in;
 
 static void stop(const char *why)
@@ -95,9 +101,34 @@ static uint64_t play_all(const struct work *w)
     return w->count;
 }
 
+/* All items in one burst, continued to its end; answers the number of frames. */
+static uint64_t burst_all(const struct work *w)
+{
+    uint64_t total = 0;
+    must(btpu_receiver_start(state));
+    for (uint32_t k = 0; k < w->count; k++) {
+        sizes[k] = (uint16_t)w->length[k];
+        memcpy(octets + total, w->item[k], w->length[k]);
+        total += w->length[k];
+    }
+    result[BTPU_BURST_FRAME] = result[BTPU_BURST_PLACE] = 0;
+    do {
+        must(btpu_receive_burst(state, pool, BTPU_POOL, sizes, w->count, octets, total, result[BTPU_BURST_FRAME],
+                                result[BTPU_BURST_PLACE], burst_output, BURST_OUTPUT, lengths, numbers, places, reasons, result));
+    } while (result[BTPU_BURST_FRAME] < w->count);
+    return w->count;
+}
+
 static uint64_t run(const struct work *w)
 {
-    return w->kind == RECEIVE ? receive_all(w) : w->kind == PLACE ? place_all(w) : play_all(w);
+    switch (w->kind) {
+    case RECEIVE: return receive_all(w);
+    case PLACE: return place_all(w);
+    case PLAY: return play_all(w);
+    case BURST: return burst_all(w);
+    default: stop("no such kind of workload");
+    }
+    return 0;
 }
 
 static struct work read_work(void)
@@ -110,6 +141,8 @@ static struct work read_work(void)
     for (uint32_t k = 0; k < w.count; k++) {
         w.length[k] = number();
         w.item[k] = malloc(w.length[k]);
+        if (w.kind == BURST && (k >= BTPU_BURST_FRAMES || w.length[k] > BTPU_MAX_FRAME))
+            stop("more than a burst has room for");
         if (w.item[k] == NULL || fread(w.item[k], 1, w.length[k], in) != w.length[k])
             stop("workloads cut short");
     }

@@ -1,6 +1,7 @@
 // Times the native library and the modules, in node and in Chromium, in one run and in turn:
 //   node --experimental-wasm-memory64 bench.mjs [--rounds N] [--ms N]
-// For each workload nanoseconds for each call, the median of the rounds, and the ratio to native; then the wrapper, for each frame.
+// For each workload nanoseconds for each call (of a burst: each frame), the median of the rounds, and the ratio to native; then the
+// wrapper, for each frame.
 import { execFileSync } from 'node:child_process';
 import fs from 'node:fs';
 import os from 'node:os';
@@ -11,7 +12,7 @@ import { gzipSync } from 'node:zlib';
 import { Receiver } from '../btpu.mjs';
 import { chromium, serve } from '../test/chromium.mjs';
 import { nativeProgram, temporary, web } from '../test/common.mjs';
-import { pack, RECEIVE, runner, time, workloads, wrapped } from './work.mjs';
+import { isWrapped, pack, runner, time, workloads, wrapped } from './work.mjs';
 
 const { values } = parseArgs({ options: { rounds: { type: 'string', default: '9' }, ms: { type: 'string', default: '40' } } });
 const rounds = Number(values.rounds), ms = Number(values.ms);
@@ -34,13 +35,13 @@ async function inNode() {
     sides.push([`node ${name}`, list.map((work) => runner(instance, work))]);
   }
   const receiver = await Receiver.create(modules[0].octets);
-  sides.push(['wrapper, node', list.map((work) => (work.kind === RECEIVE ? wrapped(receiver, work) : null))]);
+  sides.push(['wrapper, node', list.map((work) => (isWrapped(work) ? wrapped(receiver, work) : null))]);
   return () => sides.map(([name, runs]) => [name, runs.map((run) => run && time(run, ms))]);
 }
 
 /** In a page: makes the runs of all modules, and of the wrapper. */
 const PREPARE = `(async () => {
-  const { RECEIVE, runner, time, workloads, wrapped } = await import('/bench/work.mjs');
+  const { isWrapped, runner, time, workloads, wrapped } = await import('/bench/work.mjs');
   const { Receiver } = await import('/btpu.mjs');
   const list = workloads();
   window.sides = [];
@@ -49,7 +50,7 @@ const PREPARE = `(async () => {
     sides.push(['Chromium ' + name, list.map((work) => runner(instance, work))]);
   }
   const receiver = await Receiver.create();
-  sides.push(['wrapper, Chromium', list.map((work) => (work.kind === RECEIVE ? wrapped(receiver, work) : null))]);
+  sides.push(['wrapper, Chromium', list.map((work) => (isWrapped(work) ? wrapped(receiver, work) : null))]);
   window.timed = (ms) => sides.map(([name, runs]) => [name, runs.map((run) => run && time(run, ms))]);
 })()`;
 
@@ -86,7 +87,7 @@ function report(sides, version) {
   const calls = [...sides.keys()].filter((name) => !name.startsWith('wrapper'));
   const wrappers = [...sides.keys()].filter((name) => name.startsWith('wrapper'));
   console.log(`${version}, node ${process.version}, ${os.cpus()[0].model}; medians of ${rounds} rounds of ${ms} ms in turn`);
-  console.log('\nNanoseconds for each call of the library, and times native:');
+  console.log('\nNanoseconds for each call of the library, of a burst for each frame, and times native:');
   table(['workload', ...calls], list.map((work, k) => {
     const base = median(sides.get('native')[k]);
     return [work.name, ...calls.map((name) => {
@@ -94,8 +95,8 @@ function report(sides, version) {
       return name === 'native' ? value.toFixed(0) : `${value.toFixed(0)} (${(value / base).toFixed(2)})`;
     })];
   }));
-  console.log('\nMicroseconds for each frame through Receiver.receive of btpu.mjs, with btpu.wasm:');
-  const received = list.map((work, k) => ({ work, k })).filter(({ work }) => work.kind === RECEIVE);
+  console.log('\nMicroseconds for each frame through Receiver.receive of btpu.mjs, of a burst receiveAll, with btpu.wasm:');
+  const received = list.map((work, k) => ({ work, k })).filter(({ work }) => isWrapped(work));
   table(['workload', 'frames', ...wrappers], received.map(({ work, k }) => {
     return [work.name, work.items.length, ...wrappers.map((name) => (median(sides.get(name)[k]) / 1000).toFixed(2))];
   }));

@@ -1,6 +1,7 @@
 // The workloads, as data for the native program and for WebAssembly, and how a module is timed on one. For node and browsers.
 
-export const RECEIVE = 0, PLACE = 1, PLAY = 2;
+export const RECEIVE = 0, PLACE = 1, PLAY = 2, BURST = 3;
+const BURST_OUTPUT = 65536;
 const READY = 2;
 const BEGUN = 8;
 
@@ -41,7 +42,13 @@ function recording(count) {
   return Uint8Array.from([...be32(count), ...sizes, ...be32(128 * count), ...frames.flat()]);
 }
 
-/** Of kind RECEIVE: frames, each taken to its end from a fresh state; PLACE: bundles for frames of `size`; PLAY: recordings. */
+/** A frame of 2,048 octets: 170 bundles of 8 octets, and padding. */
+const fullFrame = (k) => [...times(170, (n) => message(2, some(8, 170 * k + n))).flat(), ...times(8, () => 0)];
+
+/**
+ * Of kind RECEIVE: frames, each taken to its end from a fresh state; PLACE: bundles for frames of `size`; PLAY: recordings; BURST: frames
+ * that are taken together, from a fresh state.
+ */
 export function workloads() {
   const octets = (make) => (k) => Uint8Array.from(make(k));
   return [
@@ -53,6 +60,7 @@ export function workloads() {
     { name: 'place: 4,096 octets, frames of 512', kind: PLACE, size: 512, items: times(16, octets((k) => some(4096, k))) },
     { name: 'place: 60 octets, frames of 2,048', kind: PLACE, size: 2048, items: times(512, octets((k) => some(60, k))) },
     { name: 'play: a recording of 480 frames of 128 octets', kind: PLAY, size: 0, items: [recording(480)] },
+    { name: 'burst: 64 frames of 2,048 octets, bundles of 8 octets', kind: BURST, size: 0, items: times(64, octets(fullFrame)) },
   ];
 }
 
@@ -137,21 +145,48 @@ function player({ exports: { btpu_play: play } }, lend, { items }) {
   };
 }
 
-/** A function that runs a workload once on the module's exports and answers how many calls it took. */
-export function runner(instance, work) {
-  return { [RECEIVE]: receiver, [PLACE]: placer, [PLAY]: player }[work.kind](instance, lender(instance), work);
-}
-
-/** A function that runs a receiving workload once through the wrapper and answers how many frames it took. */
-export function wrapped(wrapper, { items }) {
+/** All items in one burst, continued to its end. */
+function burster({ exports: { btpu_receiver_start: start, btpu_receive_burst: receive, memory } }, lend, { items }) {
+  const state = lend(3144).p, pool = lend(65536).p, sizes = lend(2 * 64), octets = lend(64 * 2048), output = lend(BURST_OUTPUT).p;
+  const lengths = lend(2 * 256).p, numbers = lend(8 * 256).p, places = lend(4 * 64).p, reasons = lend(4 * 64).p, result = lend(40).p;
+  const answers = new DataView(memory.buffer, Number(result), 40), count = BigInt(items.length);
   return () => {
-    wrapper.restart();
-    for (const item of items) wrapper.receive(item);
+    let total = 0, frame = 0n, place = 0n;
+    must(start(state));
+    items.forEach((item, k) => {
+      sizes.octets.set([item.length & 255, item.length >> 8], 2 * k);
+      octets.octets.set(item, total);
+      total += item.length;
+    });
+    do {
+      must(receive(state, pool, 65536n, sizes.p, count, octets.p, BigInt(total), frame, place, output, BigInt(BURST_OUTPUT),
+        lengths, numbers, places, reasons, result));
+      frame = answers.getBigUint64(16, true);
+      place = answers.getBigUint64(24, true);
+    } while (frame < count);
     return items.length;
   };
 }
 
-/** Nanoseconds for each call, over at least `ms`. */
+/** A function that runs a workload once on the module's exports and answers how many calls it took; of a burst, how many frames. */
+export function runner(instance, work) {
+  return { [RECEIVE]: receiver, [PLACE]: placer, [PLAY]: player, [BURST]: burster }[work.kind](instance, lender(instance), work);
+}
+
+/** Whether a workload is run through the wrapper too. */
+export const isWrapped = ({ kind }) => kind === RECEIVE || kind === BURST;
+
+/** A function that runs such a workload once through the wrapper and answers how many frames it took. */
+export function wrapped(wrapper, { kind, items }) {
+  return () => {
+    wrapper.restart();
+    if (kind === BURST) wrapper.receiveAll(items);
+    else for (const item of items) wrapper.receive(item);
+    return items.length;
+  };
+}
+
+/** Nanoseconds for each call, or each frame of a burst, over at least `ms`. */
 export function time(run, ms) {
   const from = performance.now();
   let calls = 0, to = from;

@@ -5,8 +5,12 @@ const GUARD = 64;
 const MORE = 128;
 
 /** Octets that the library asks for, part by part. Calls of a receiver or a sender are lent the parts of NEAR alone. */
-const NEAR_PARTS = { state: 3144, pool: 65536, frame: 2048, output: 4096, result: 32, senderState: 24, senderFrame: 2048, bundle: 4096 };
+const NEAR_PARTS = { state: 3144, pool: 65536, frame: 2048, output: 4096, result: 40, senderState: 24, senderFrame: 2048, bundle: 4096 };
 const FAR_PARTS = { recording: 63496, sizes: 2048, octets: 61440, playOutput: 61440, lengths: 30720, places: 4096, reasons: 4096 };
+/** Bursts are lent these, and state, pool and result. They lie where the parts for recordings do: the memory has no room for both. */
+const BURST_PARTS = {
+  burstSizes: 128, burstOctets: 131072, burstOutput: 65536, burstLengths: 512, burstNumbers: 2048, burstPlaces: 256, burstReasons: 256,
+};
 
 /** Where each part starts; all are aligned to 64 octets. */
 export const at = {};
@@ -23,13 +27,16 @@ function lay(parts) {
   return end;
 }
 export const NEAR = lay(NEAR_PARTS);
-export const ARENA = lay(FAR_PARTS);
+const BURSTS = lay(BURST_PARTS);
+end = NEAR;
+export const ARENA = Math.max(BURSTS, lay(FAR_PARTS));
 
 /** The functions, in the order of btpu.h, with their parameters: p a pointer, n a number of 64 bits, w one of 32. */
 export const FUNCTIONS = [
   ['btpu_receiver_start', 'p'],
   ['btpu_receiver_check', 'p'],
   ['btpu_receive', 'ppnpnnpnp'],
+  ['btpu_receive_burst', 'ppnpnpnnnpnppppp'],
   ['btpu_sender_start', 'pnw'],
   ['btpu_sender_check', 'p'],
   ['btpu_place', 'ppnpnp'],
@@ -42,6 +49,8 @@ export const FUNCTIONS = [
 export const RECEIVE = 2;
 /** The parameter of btpu_receive that is the place. */
 export const PLACE = 5;
+/** Parameters of btpu_receive_burst. */
+export const BURST = { frames: 4, frame: 7, place: 8, reasons: 14 };
 /** Stands for a pointer that is NULL. */
 export const NONE = 0xffffffff;
 
@@ -50,11 +59,12 @@ export const NONE = 0xffffffff;
  * operations, each with its number in one octet. All numbers are little-endian.
  *
  *   call        u8 function, u8 count, count u64: pointers as offsets in the arena
- *   whole       the same for btpu_receive, called again with each next place until the frame is finished or refused
+ *   whole       the same for btpu_receive, called again with each next place until the frame is finished or refused; and for
+ *               btpu_receive_burst, called again where it stopped until all frames are taken
  *   put         u32 offset, u32 length, octets
  *   fill        u32 offset, u32 length, u8 octet
  *   turn        u32 offset, u8 bits: the bits are turned
  *   turnBack    the same, if the last call was refused
- *   section     u8 which: 0 calls of receiver and sender follow, 1 calls with recordings
+ *   section     u8 which: 0 calls of receiver and sender follow, 1 calls with recordings, 2 bursts
  */
 export const OP = { call: 0, whole: 1, put: 2, fill: 3, turn: 4, turnBack: 5, section: 6 };

@@ -1,8 +1,8 @@
 // Runs the operations of a test on a WebAssembly module's exports, and compares each call with what the native library answered:
 // the number returned, and the octets of the arena. For node and browsers.
-import { FUNCTIONS, NONE, OP, PLACE } from './arena.mjs';
+import { BURST, FUNCTIONS, NONE, OP, PLACE } from './arena.mjs';
 
-const ANSWERING = ['btpu_receive', 'btpu_place', 'btpu_cancel', 'btpu_flush'];
+const ANSWERING = ['btpu_receive', 'btpu_receive_burst', 'btpu_place', 'btpu_cancel', 'btpu_flush'];
 
 /** The module's stack, at the bottom of its memory. */
 export const STACK = 196608;
@@ -51,8 +51,10 @@ class Comparison {
   /** By function: how often each refusal was given, and each answer. */
   refusals = Object.fromEntries(FUNCTIONS.map(([name]) => [name, {}]));
   answers = Object.fromEntries(ANSWERING.map((name) => [name, {}]));
+  /** By number: how often a frame of a burst was passed over for this refusal. */
+  passed = {};
   /** Octets of the stack used at most by the calls of each kind of section. */
-  stack = [0, 0];
+  stack = [0, 0, 0];
   #section = 0;
   #returned = 0;
 
@@ -71,7 +73,8 @@ class Comparison {
     this.words = new Uint32Array(memory.buffer, this.from, arena / 4);
     this.expectedWords = new Uint32Array(this.expected.buffer);
     this.near = near / 4;
-    this.result = new DataView(memory.buffer, this.from + result, 32);
+    this.view = new DataView(memory.buffer);
+    this.result = new DataView(memory.buffer, this.from + result, 40);
     this.data = this.memory.slice(STACK, this.from);
     this.memory.fill(UNUSED, 0, STACK);
   }
@@ -82,8 +85,8 @@ class Comparison {
     if (this.difference === null) this.#compare(this.words.length);
     if (this.difference === null && !this.native.ended) this.difference = 'there are more answers than calls';
     if (this.difference === null) this.#outside();
-    const { difference, frames, calls, bundles, refusals, answers, stack } = this;
-    return { difference, frames, calls, bundles, refusals, answers, stack };
+    const { difference, frames, calls, bundles, refusals, answers, passed, stack } = this;
+    return { difference, frames, calls, bundles, refusals, answers, passed, stack };
   }
 
   #operation(operation) {
@@ -122,10 +125,29 @@ class Comparison {
         return;
       }
       this.#hold(which);
-      const answer = this.#returned === 0 ? this.result.getUint32(0, true) : null;
+      if (this.difference !== null) return;
+      const burst = name === 'btpu_receive_burst', answer = this.#answer(burst, words);
       this.#count(which, answer);
-      if (this.difference !== null || !whole || answer !== 1) return;
-      words[PLACE] = this.result.getBigUint64(16, true);
+      if (burst && answer !== null) this.#countBurst(words);
+      if (!whole || answer === null || answer === 0 || (!burst && answer !== 1)) return;
+      if (burst) [words[BURST.frame], words[BURST.place]] = [this.result.getBigUint64(16, true), this.result.getBigUint64(24, true)];
+      else words[PLACE] = this.result.getBigUint64(16, true);
+    }
+  }
+
+  /** The answer in the result; of a burst 0 if all frames are taken, 1 if it stopped at 256 bundles, 2 if it did for want of output. */
+  #answer(burst, words) {
+    if (this.#returned !== 0) return null;
+    const first = this.result.getUint32(0, true);
+    if (!burst) return first;
+    return this.result.getBigUint64(16, true) === words[BURST.frames] ? 0 : first === 256 ? 1 : 2;
+  }
+
+  #countBurst(words) {
+    this.bundles += this.result.getUint32(0, true);
+    for (let k = 0; k < this.result.getUint32(32, true); k++) {
+      const number = this.view.getUint32(Number(words[BURST.reasons]) + 4 * k, true);
+      this.passed[number] = (this.passed[number] ?? 0) + 1;
     }
   }
 

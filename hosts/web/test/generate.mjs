@@ -1,5 +1,5 @@
-// Operations for a test, from a seed: frames for a receiver with wrong lengths, wrong places and images that are not sound; for a
-// sender and for recordings likewise.
+// Operations for a test, from a seed: frames for a receiver with wrong lengths, wrong places and images that are not sound; for
+// bursts, for a sender and for recordings likewise.
 import { ARENA, at, FUNCTIONS, NEAR, NONE, OP, RECEIVE, room } from './arena.mjs';
 import { piece } from './common.mjs';
 import { be16, be32, damaged, GREATEST, Random, randomFrame, someFrames, traffic } from './random-frames.mjs';
@@ -41,8 +41,8 @@ class Operations {
     this.#call(OP.call, name, words);
   }
 
-  whole(...words) {
-    this.#call(OP.whole, 'receive', words);
+  whole(name, ...words) {
+    this.#call(OP.whole, name, words);
   }
 
   put(offset, octets) {
@@ -100,7 +100,7 @@ function receiveFrame(r, o, frame) {
   o.put(at.frame, frame);
   if (r.once(12)) wrongReceive(r, o, frame);
   if (r.once(20)) return;
-  o.whole(at.state, at.pool, 65536, at.frame, frame.length, 0, at.output, 4096, at.result);
+  o.whole('receive', at.state, at.pool, 65536, at.frame, frame.length, 0, at.output, 4096, at.result);
 }
 
 /** Where a bit of a receiver's image is turned: anywhere, or where a row starts. */
@@ -322,6 +322,106 @@ function recordings(r, o, run, make) {
   beyondLimits(r, o, sizes, octets.length, whole);
 }
 
+// ---- bursts
+
+const MOST_IN_BURST = 64;
+const SHORTEST_OUTPUT = 4096;
+
+/** So many frames: none, few, many, as many as a burst may have at most, and more. */
+const burstCount = (r) => (r.once(2) ? r.below(MOST_IN_BURST + 3) : r.pick([0, 1, 2, MOST_IN_BURST - 1, MOST_IN_BURST, MOST_IN_BURST]));
+const many = (r, make) => Array.from({ length: burstCount(r) }, (_, k) => make(k));
+const someDamaged = (r, frames) => frames.map((frame) => (r.once(5) ? damaged(r, frame) : frame));
+
+/** Frames that are refused with 3, 4, 6, 7 and 8. */
+const MALFORMED = [[], [3, 0, 0], [2, 0, 0, 4, 65], [2, 128, 0, 1, 2], [5, 0, 0, 3, 0, 0, 0]];
+
+/** Frames for bursts of each kind. */
+const BURSTS = [
+  (r, run) => someDamaged(r, someFrames(r, run, burstCount(r))),
+  (r, run) => someDamaged(r, traffic(r, run, 1 + r.below(12))),
+  (r, run) => many(r, () => (r.once(3) ? r.pick([...MALFORMED, [0], r.octets(r.below(12))]) : damaged(r, randomFrame(r, run)))),
+  (r, run) => [...MALFORMED, ...GREATEST.map((make) => make(r, run)), randomFrame(r, run)], // the most stack; one that is too long
+  (r, run) => many(r, (k) => piece(k % 2 === 1, run.base + (k >> 1), k % 2, r.octets(2000 + r.below(37)))), // the output fills
+  (r) => Array.from({ length: 1 + r.below(4) }, () => Array(r.pick([64, 255, 256, 257, 512])).fill([2, 0, 0, 0]).flat()), // the lists fill
+  (r) => many(r, () => [1 + r.below(9), ...r.octets(r.below(4))]), // most are refused
+  (r) => many(r, () => Array(r.pick([2048, 2048, 1 + r.below(40)])).fill(0)), // padding, and the most octets
+];
+
+/** As many of the frames as there is room for. */
+function burstFrames(r, run, make) {
+  let octets = 0;
+  return make(r, run).slice(0, MOST_IN_BURST + 2).filter((frame) => {
+    if (octets + frame.length > room.burstOctets) return false;
+    octets += frame.length;
+    return true;
+  });
+}
+
+/** Where a message of the frame starts, as far as its lengths tell, or the frame's end. */
+function messageStart(r, frame) {
+  const starts = [0];
+  for (let k = 0; k < frame.length;) {
+    k += frame[k] === 0 ? 1 : 4 + (((frame[k + 1] & 15) << 16) | (frame[k + 2] << 8) | frame[k + 3]);
+    if (k <= frame.length) starts.push(k);
+  }
+  return r.pick(starts);
+}
+
+/** A frame and a place in it to go on from: good ones and others, at the count of frames and above. */
+function burstStart(r, frames) {
+  const far = r.pick([BEYOND, 2n ** 64n - 1n, 2n ** 63n]);
+  if (frames.length === 0 || r.once(5)) return [frames.length, r.pick([0, 0, 1, far])];
+  const k = r.below(frames.length), above = frames.length + 1;
+  if (r.once(6)) return [r.pick([above, above + r.below(100), far, BEYOND + BigInt(above - 1)]), r.pick([0, 0, 1])];
+  return [k, r.once(2) ? messageStart(r, frames[k]) : r.once(8) ? far : r.below(frames[k].length + 3)];
+}
+
+/** Words of a call. */
+function burstWords(r, { pool = 65536, count, octets, start = [0, 0], output }) {
+  return [at.state, ...orNone(r, 'pool', pool), ...orNone(r, 'burstSizes', count), ...orNone(r, 'burstOctets', octets), ...start,
+    ...orNone(r, 'burstOutput', output), at.burstLengths, at.burstNumbers, at.burstPlaces, at.burstReasons, at.result];
+}
+
+/** An output that is long enough; the shortest one, which one bundle fills, is seldom, since it takes many calls. */
+function burstOutput(r) {
+  if (r.once(4)) return SHORTEST_OUTPUT + r.below(3);
+  return r.pick([2 * SHORTEST_OUTPUT, 65536, 65536 + r.below(128), SHORTEST_OUTPUT + r.below(61440)]);
+}
+
+/** Calls with one thing wrong or, at times, more. */
+function wrongBursts(r, o, frames, right) {
+  const n = right.count, sum = right.octets;
+  const wrong = [
+    () => ({ pool: r.pick([0, 65535, 65537, 65536 + 128, BEYOND + 65536n]) }),
+    () => ({ output: r.pick([0, 1, SHORTEST_OUTPUT - 1, r.below(SHORTEST_OUTPUT)]) }),
+    () => ({ count: r.pick([MOST_IN_BURST + 1, MOST_IN_BURST + 2, BEYOND + BigInt(n), 2n ** 64n - 1n]) }),
+    () => ({ count: r.pick([n + 1, Math.max(n, 1) - 1]) }),
+    () => ({ octets: r.pick([sum + 1, Math.max(sum, 1) - 1, 0, r.below(131072), BEYOND + BigInt(sum), 2n ** 64n - 1n]) }),
+    () => ({ start: burstStart(r, frames) }),
+    () => ({ start: burstStart(r, frames) }),
+  ];
+  for (let calls = 3; calls > 0; calls--) {
+    const given = { ...right, output: burstOutput(r), ...r.pick(wrong)(), ...(r.once(4) ? r.pick(wrong)() : {}) };
+    const unsound = r.once(5), bits = r.once(2) ? [at.state, 2] : turnedInImage(r); // with the first, the image is never sound
+    if (unsound) o.turn(...bits);
+    o.call('receive_burst', ...burstWords(r, given));
+    if (unsound) o.turn(...bits, OP.turnBack);
+  }
+}
+
+function bursts(r, o, run, make) {
+  const frames = burstFrames(r, run, make).map((frame) => [...frame]), octets = frames.flat();
+  const right = { count: frames.length, octets: octets.length };
+  for (const name of ['burstOutput', 'burstLengths', 'burstNumbers', 'burstPlaces', 'burstReasons']) {
+    o.fill(at[name], room[name], r.next() & 255);
+  }
+  o.put(at.burstSizes, frames.flatMap((frame) => le16(frame.length)));
+  o.put(at.burstOctets, octets);
+  wrongBursts(r, o, frames, right);
+  o.whole('receive_burst', ...burstWords(r, { ...right, output: burstOutput(r) }));
+  if (r.once(2)) o.whole('receive_burst', ...burstWords(r, { ...right, output: 65536, start: burstStart(r, frames) }));
+}
+
 /** Operations with at least so many frames for a receiver. */
 export function generate(seed, frames) {
   const r = new Random(seed), o = new Operations();
@@ -330,6 +430,9 @@ export function generate(seed, frames) {
     const run = { base: r.once(4) ? (0xfffffff8 + r.below(16)) >>> 0 : r.next(), manner: k % 4 };
     o.section(0);
     receiving(r, o, run, k === 0 ? GREATEST.map((make) => make(r, run)) : someFrames(r, run, 40));
+    o.section(2);
+    bursts(r, o, run, BURSTS[k % BURSTS.length]);
+    o.section(0);
     sending(r, o);
     o.section(1);
     recordings(r, o, run, RECORDED[k] ?? (r.once(6) ? r.pick(RECORDED) : r.pick(RECORDED.slice(0, 3))));

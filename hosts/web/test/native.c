@@ -18,6 +18,9 @@
 #define NONE UINT32_C(0xffffffff)
 #define RECEIVE 2
 #define PLACE 5
+#define BURST 3
+#define BURST_GIVEN 4
+#define BURST_FROM 7
 
 static _Alignas(64) uint8_t arena[LARGEST_ARENA];
 static _Alignas(64) uint8_t before[LARGEST_ARENA];
@@ -93,31 +96,47 @@ static uint32_t call(int function)
     case 0: return btpu_receiver_start(P(0));
     case 1: return btpu_receiver_check(P(0));
     case RECEIVE: return btpu_receive(P(0), P(1), N(2), P(3), N(4), N(PLACE), P(6), N(7), P(8));
-    case 3: return btpu_sender_start(P(0), N(1), (uint32_t)N(2));
-    case 4: return btpu_sender_check(P(0));
-    case 5: return btpu_place(P(0), P(1), N(2), P(3), N(4), P(5));
-    case 6: return btpu_cancel(P(0), P(1), N(2), P(3));
-    case 7: return btpu_flush(P(0), P(1), N(2), P(3));
-    case 8: return btpu_record(P(0), N(1), P(2), N(3), P(4), N(5), P(6));
-    case 9: return btpu_recording_open(P(0), N(1), P(2), P(3));
-    case 10: return btpu_play(P(0), N(1), N(2), P(3), N(4), P(5), N(6), P(7), N(8), P(9), N(10), P(11), N(12), P(13));
+    case BURST:
+        return btpu_receive_burst(P(0), P(1), N(2), P(3), N(BURST_GIVEN), P(5), N(6), N(BURST_FROM), N(BURST_FROM + 1), P(9), N(10),
+                                  P(11), P(12), P(13), P(14), P(15));
+    case 4: return btpu_sender_start(P(0), N(1), (uint32_t)N(2));
+    case 5: return btpu_sender_check(P(0));
+    case 6: return btpu_place(P(0), P(1), N(2), P(3), N(4), P(5));
+    case 7: return btpu_cancel(P(0), P(1), N(2), P(3));
+    case 8: return btpu_flush(P(0), P(1), N(2), P(3));
+    case 9: return btpu_record(P(0), N(1), P(2), N(3), P(4), N(5), P(6));
+    case 10: return btpu_recording_open(P(0), N(1), P(2), P(3));
+    case 11: return btpu_play(P(0), N(1), N(2), P(3), N(4), P(5), N(6), P(7), N(8), P(9), N(10), P(11), N(12), P(13));
     default: stop("no such function");
     }
     return 0;
 }
 
+/* Whether the call that was just made is to be made again; sets where it goes on. */
+static int goes_on(int function)
+{
+    const uint64_t *result = (const uint64_t *)(arena + result_at);
+    if (function == BURST) {
+        words[BURST_FROM] = result[BTPU_BURST_FRAME];
+        words[BURST_FROM + 1] = result[BTPU_BURST_PLACE];
+        return words[BURST_FROM] != words[BURST_GIVEN];
+    }
+    words[PLACE] = result[BTPU_PLACE];
+    return result[BTPU_ANSWER] == BTPU_BUNDLE;
+}
+
 static uint32_t called(int whole)
 {
     int function = (int)number(1), count = (int)number(1);
-    const uint64_t *result = (const uint64_t *)(arena + result_at);
+    if (count > (int)(sizeof words / sizeof *words))
+        stop("a call with too many words");
     for (int k = 0; k < count; k++)
         words[k] = number(8);
     for (;;) {
         uint32_t returned = call(function);
         answer(returned);
-        if (!whole || returned != 0 || result[BTPU_ANSWER] != BTPU_BUNDLE)
+        if (!whole || returned != 0 || !goes_on(function))
             return returned;
-        words[PLACE] = result[BTPU_PLACE];
     }
 }
 

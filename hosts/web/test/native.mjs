@@ -26,6 +26,7 @@ const REFUSALS = {
   btpu_receiver_start: [],
   btpu_receiver_check: [1],
   btpu_receive: [1, 2, 3, 4, 6, 7, 8, 9],
+  btpu_receive_burst: [1, 2, 3, 9, 19],
   btpu_sender_start: [14],
   btpu_sender_check: [1],
   btpu_place: [1, 10, 11, 12],
@@ -35,8 +36,14 @@ const REFUSALS = {
   btpu_recording_open: [16, 17, 18, 19, 20],
   btpu_play: [2, 16, 17, 18, 19, 20, 24],
 };
-/** The answers: of btpu_receive 0 finished, 1 a bundle; else 0 placed, 1 placed and ready, 2 ready, 3 nothing. */
-const ANSWERS = { btpu_receive: [0, 1], btpu_place: [0, 1, 2], btpu_cancel: [0], btpu_flush: [2, 3] };
+/**
+ * The answers: of btpu_receive 0 finished, 1 a bundle; of btpu_receive_burst 0 all frames taken, 1 stopped at 256 bundles, 2 stopped for
+ * want of output; else 0 placed, 1 placed and ready, 2 ready, 3 nothing.
+ */
+const ANSWERS = { btpu_receive: [0, 1], btpu_receive_burst: [0, 1, 2], btpu_place: [0, 1, 2], btpu_cancel: [0], btpu_flush: [2, 3] };
+
+/** The refusals for which a burst passes a frame over. */
+const PASSED = [3, 4, 6, 7, 8];
 
 const seen = (counts) => Object.fromEntries(Object.entries(counts).map(([name, of]) => [name, Object.keys(of).map(Number)]));
 
@@ -46,11 +53,12 @@ export function judge(name, found) {
   assert.ok(found.frames >= frames, 'fewer frames than asked for');
   assert.deepEqual(seen(found.refusals), REFUSALS, `refusals, seed ${seed}`);
   assert.deepEqual(seen(found.answers), ANSWERS, `answers, seed ${seed}`);
-  const [receiving, playing] = found.stack;
+  assert.deepEqual(Object.keys(found.passed).map(Number), PASSED, `frames passed over in bursts, seed ${seed}`);
+  const [receiving, playing, bursts] = found.stack;
   // The longest chain of hints takes the most stack: less shows that it was not among the frames.
-  assert.ok(receiving > 30000 && playing > 90000, `stack used: ${found.stack}`);
-  assert.ok(Math.max(receiving, playing) <= (2 * STACK) / 3, `stack used: ${found.stack}`);
+  assert.ok(receiving > 30000 && playing > 90000 && bursts > 40000, `stack used: ${found.stack}`);
+  assert.ok(Math.max(...found.stack) <= (2 * STACK) / 3, `stack used: ${found.stack}`);
   const refused = Object.values(found.refusals).flatMap((of) => Object.values(of)).reduce((sum, n) => sum + n, 0);
-  return `${name}: seed ${seed}, ${found.frames} frames, ${found.calls} calls, ${found.bundles} bundles, ${refused} refusals `
-    + `of ${new Set(Object.values(REFUSALS).flat()).size} numbers; stack: ${receiving} octets, ${playing} in btpu_play`;
+  return `${name}: seed ${seed}, ${found.frames} frames, ${found.calls} calls, ${found.bundles} bundles, ${refused} refusals of `
+    + `${new Set(Object.values(REFUSALS).flat()).size} numbers; stack: ${receiving} octets, ${bursts} in bursts, ${playing} in btpu_play`;
 }

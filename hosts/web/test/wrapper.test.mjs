@@ -1,6 +1,7 @@
 // The wrapper in node: what it answers, what it refuses, and what it does after a trap.
 import assert from 'node:assert/strict';
 import { execFileSync } from 'node:child_process';
+import { randomInt } from 'node:crypto';
 import fs from 'node:fs';
 import path from 'node:path';
 import test from 'node:test';
@@ -8,6 +9,7 @@ import { Receiver, Recorder, RefusalError, Sender, SIZES, TrapError, hasMemory64
 import { overLink } from '../frames.mjs';
 import { NOTHING, contentOf, showing, tableOf } from '../timetable.mjs';
 import { cancel, chain, message, octets, piece, repository, sample, web } from './common.mjs';
+import { damaged, GREATEST, Random, someFrames } from './random-frames.mjs';
 import { withStack } from './starve.mjs';
 
 const text = (s) => new TextEncoder().encode(s);
@@ -20,6 +22,7 @@ for (const name of ['btpu.wasm', 'btpu-plain.wasm', 'btpu64.wasm']) {
   test(name, { skip: name === 'btpu64.wasm' && !hasMemory64() && 'this node has no memory64' }, async (t) => {
     const module = await load(file(name));
     await receiving(t, module, name);
+    await bursts(t, module, name);
     await sending(t, module);
     await recording(t, module);
   });
@@ -136,6 +139,125 @@ async function receiving(t, module, name) {
   });
 }
 
+/** What receiveAll must answer: each frame received by itself. */
+function oneByOne(receiver, frames) {
+  const answers = frames.map((f) => receiver.receive(f));
+  const refused = answers.flatMap(({ refusal: r }, frame) => (r === null ? [] : [{ frame, number: r.number, words: r.words }]));
+  return { bundles: answers.flatMap((a) => a.bundles), refused };
+}
+
+/** Frames of each refusal that a frame can meet: 3, 3, 3, 4, 6, 7, 8. */
+const REFUSED = [
+  ...[0, 2049, 70000].map((length) => new Uint8Array(length)),
+  ...['03 00 00', '02 00 00 04 41', '02 80 00 01 02', '05 00 00 03 00 00 00'].map(octets),
+];
+/** A bundle of 4,096 octets in three frames. */
+const inThree = (number) => [2036, 2036, 24].map((length, k) => frame(piece(k === 2, number, k, Array(length).fill(number + k))));
+/** Frames of all kinds, in any order. */
+function anyFrames(r) {
+  const run = { base: r.once(2) ? 0xfffffff8 : r.next(), manner: r.below(4) };
+  const made = someFrames(r, run, 60 + r.below(80)).map((f) => (r.once(4) ? damaged(r, f) : f));
+  const frames = [...[...made, ...GREATEST.map((make) => make(r, run))].map((f) => Uint8Array.from(f)), ...REFUSED, ...inThree(run.base)];
+  return frames.map((f) => ({ f, key: r.next() })).sort((a, b) => a.key - b.key).map(({ f }) => f);
+}
+
+async function bursts(t, module, name) {
+  const receiver = () => Receiver.create(module);
+  /** Holds receiveAll to receive frame by frame: the answer, and the state after. */
+  const same = async (frames, message) => {
+    const a = await receiver(), b = await receiver(), expected = oneByOne(a, frames);
+    assert.deepEqual(b.receiveAll(frames), expected, message);
+    assert.deepEqual(b.save(), a.save(), message);
+    return expected;
+  };
+
+  await t.test('frames in bursts: the sample', async () => {
+    assert.ok((await same(sample)).bundles.length > 0);
+    await same([...sample, ...REFUSED, ...sample]);
+  });
+
+  await t.test('frames in bursts: random ones, with refused ones of each kind', async () => {
+    const seed = Number(process.env.BTPU_SEED ?? randomInt(1, 2 ** 32 - 1)), r = new Random(seed);
+    for (let n = 0; n < 12; n++) {
+      const { bundles, refused } = await same(anyFrames(r), `seed ${seed}`);
+      assert.ok(bundles.length >= 512);
+      assert.deepEqual([...new Set(refused.map((x) => x.number))].sort(), [3, 4, 6, 7, 8]);
+    }
+  });
+
+  await t.test('frames in bursts: lists of each length, and a receiver that goes on', async () => {
+    const one = (k) => (k % 5 === 4 ? REFUSED[k % 7] : frame(message(2, 0, [k]), piece(k % 3 === 2, Math.floor(k / 3), k % 3, [k])));
+    for (const length of [0, 1, 2, 63, 64, 65, 127, 128, 129, 300]) await same(Array.from({ length }, (_, k) => one(k)));
+    assert.deepEqual((await receiver()).receiveAll([]), { bundles: [], refused: [] });
+    const a = await receiver(), b = await receiver();
+    for (let from = 0; from < 100; from += 23) {
+      const frames = Array.from({ length: 23 }, (_, k) => one(from + k));
+      assert.deepEqual(a.receiveAll(frames), oneByOne(b, frames));
+    }
+    assert.deepEqual(a.save(), b.save());
+  });
+
+  await t.test('frames in bursts: more bundles and more octets than one call hands out', async () => {
+    const many = frame(...Array(512).fill(message(2, 0, [])));
+    assert.equal((await same([many])).bundles.length, 512);
+    assert.equal((await same(Array(70).fill(many))).bundles.length, 70 * 512);
+    const last = frame(...Array.from({ length: 256 }, (_, k) => message(2, 0, [k])));
+    assert.equal((await same([last, new Uint8Array(0), last])).bundles.length, 512); // the first call stops at a frame's end
+    const { bundles } = await same(Array.from({ length: 60 }, (_, number) => inThree(number)).flat());
+    const ends = bundles.map((b) => [b.number, b.octets.length, b.octets[0], b.octets[4095]]);
+    assert.deepEqual(ends, Array.from({ length: 60 }, (_, k) => [k, 4096, k, k + 2]));
+    assert.equal((await same(Array(64).fill(frame(message(2, 0, Array(2044).fill(7)))))).bundles.length, 64);
+    assert.equal((await same(Array(65).fill(new Uint8Array(3000)))).refused.length, 65);
+  });
+
+  await t.test('frames in bursts: any iterable of any views, and nothing else', async () => {
+    const r = await receiver(), good = octets('02 00 00 01 41'), buffer = Buffer.from(good);
+    function* refilled() { // each time in the same buffer
+      for (let k = 0; k < 100; k++) {
+        buffer[4] = k;
+        yield buffer;
+      }
+    }
+    assert.deepEqual(r.receiveAll(refilled()).bundles.map((b) => b.octets[0]), Array.from({ length: 100 }, (_, k) => k));
+    assert.equal(r.receiveAll(new Set([good, good.buffer, new DataView(good.buffer), Buffer.from(good)])).bundles.length, 4);
+    const before = r.save(), first = frame(piece(false, 5, 0, [1]));
+    for (const wrong of ['abc', [2, 0, 0, 0], 5, null, undefined, {}]) {
+      for (const list of [[wrong], [first, wrong], [...Array(200).fill(first), wrong]]) assert.throws(() => r.receiveAll(list), TypeError);
+    }
+    for (const wrong of [undefined, null, 5, {}, 'abc', good, good.buffer]) assert.throws(() => r.receiveAll(wrong), TypeError);
+    function* failing() {
+      yield first;
+      throw new Error('no more');
+    }
+    assert.throws(() => r.receiveAll(failing()), /no more/);
+    assert.deepEqual(r.save(), before);
+  });
+
+  await t.test('frames in bursts: bundles belong to the caller', async () => {
+    const r = await receiver(), given = octets('02 00 00 01 41'), { bundles } = r.receiveAll([given, given]);
+    bundles[0].octets[0] = 9;
+    assert.deepEqual(given, octets('02 00 00 01 41'));
+    r.receiveAll([octets('02 00 00 01 43 02 00 00 01 44')]);
+    assert.deepEqual(bundles.map((b) => b.octets[0]), [9, 0x41]);
+  });
+
+  await t.test('frames in bursts: a trap hands over the bundles of the bursts before', async () => {
+    const r = await Receiver.create(await load(withStack(file(name), 32000)));
+    const short = Array.from({ length: 70 }, (_, k) => frame(message(2, 0, [k]))), long = frame(message(2, 128, chain(1022)));
+    const saved = r.save();
+    assert.equal(r.receiveAll(short).bundles.length, 70);
+    assert.throws(() => r.receiveAll([...short, long]), (e) => {
+      assert.deepEqual(e.bundles.map((b) => b.octets[0]), Array.from({ length: SIZES.burstFrames }, (_, k) => k));
+      return e instanceof TrapError;
+    });
+    assert.equal(r.broken, true);
+    for (const use of [() => r.receiveAll([]), () => r.receiveAll(short), () => r.receive(short[0])]) assert.throws(use, TrapError);
+    const next = await receiver();
+    next.restore(saved);
+    assert.equal(next.receiveAll([...short, long]).bundles.length, 71);
+  });
+}
+
 async function sending(t, module) {
   const sender = (frameSize, firstNumber) => Sender.create({ frameSize, firstNumber }, module);
 
@@ -168,6 +290,10 @@ async function sending(t, module) {
     assert.equal(s.place(bundle).ended, false);
     assert.throws(() => s.place(bundle.subarray(1)), refusal(12));
     assert.throws(() => s.place(new Uint8Array(300).fill(2)), RangeError); // which the library can't see
+    const lent = Buffer.from(bundle), other = await sender(128, 0);
+    other.place(lent);
+    lent[200] = 9;
+    assert.throws(() => other.place(lent), RangeError); // changed in mid-transfer
     assert.equal(s.send(bundle).length, 1);
     assert.equal(s.begun, false);
   });
@@ -274,7 +400,7 @@ test('sizes and words are those of the C header and of the Rust crate', () => {
   const names = {
     receiverImage: 'BTPU_RECEIVER_IMAGE', senderImage: 'BTPU_SENDER_IMAGE', pool: 'BTPU_POOL', output: 'BTPU_MIN_OUTPUT', bundle: 'BTPU_MAX_BUNDLE',
     frame: 'BTPU_MAX_FRAME', recording: 'BTPU_MAX_RECORDING', recordedFrames: 'BTPU_RECORDED_FRAMES', recordedOctets: 'BTPU_RECORDED_OCTETS',
-    playedBundles: 'BTPU_PLAYED_BUNDLES',
+    playedBundles: 'BTPU_PLAYED_BUNDLES', burstFrames: 'BTPU_BURST_FRAMES', burstBundles: 'BTPU_BURST_BUNDLES',
   };
   assert.deepEqual({ ...SIZES }, Object.fromEntries(Object.entries(names).map(([name, define]) => [name, defined(define)])));
   const crate = fs.readFileSync(path.join(repository, 'hosts/rust/src/refusal.rs'), 'utf8');

@@ -1,0 +1,28 @@
+-- `burst::admit` meets its contract.
+use Rattle.burst.specs.Burst.{refusal}
+use Rattle.burst.specs.Steps.{admission}
+use borrow.Author.Needs.{needs}
+use Rattle.burst.proofs.admit.Statement.{statement}
+use Rattle.burst.proofs.admit.Tie as tie
+
+is-sound-requires : tie.Need-is-sound-requires
+is-sound-requires c κs = search needs
+
+returns : tie.Need-returns
+unfolding refusal admission
+returns c = rw (← c .before .before .is-sound .ensures, c .before .if1 .taken, c .if2 .taken)
+
+admit-frames-requires : tie.Need-admit-frames-requires
+admit-frames-requires c κs = search needs
+
+returns-2 : tie.Need-returns-2
+unfolding refusal
+returns-2 c = rw (← c .before .before .before .is-sound .ensures, c .before .before .if1 .taken, c .before .if2 .left) (c .admit-frames .ensures)
+
+returns-3 : tie.Need-returns-3
+unfolding refusal admission
+returns-3 c = rw (← c .before .is-sound .ensures, c .if1 .left)
+
+pub admit-spec : {M : Type 1} → statement M
+admit-spec =
+    tie.close (tie.spec is-sound-requires returns admit-frames-requires returns-2 returns-3)

@@ -1,0 +1,3 @@
+pub mod Burst
+pub mod Steps
+pub mod Equal

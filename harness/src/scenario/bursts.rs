@@ -1,0 +1,120 @@
+//! Scenarios of bursts.
+
+use super::some_receiver;
+use crate::compare::{Burst, Lending, Received, ReceiverPair, Trial};
+use crate::generate;
+use btpu::raw::{BURST_FRAMES, NO_NUMBER};
+
+/// Bundles with their numbers, and refused frames with the numbers of their refusals.
+type HandedOut = (Vec<(u64, Vec<u8>)>, Vec<(u32, u32)>);
+
+/// Frames of every kind, also some that cannot be recorded.
+fn frames(trial: &mut Trial) -> Vec<Vec<u8>> {
+    let random = &mut trial.random;
+    let mut frames = generate::recorded_frames(random);
+    for _ in 0..random.below(4) {
+        let at = random.below(frames.len() + 1);
+        frames.insert(at, generate::random_frame(random));
+    }
+    frames.truncate(BURST_FRAMES);
+    frames
+}
+
+/// Taken by bursts, with calls that are refused between, and by single calls.
+pub fn bursts(trial: &mut Trial) {
+    let mut receiver = some_receiver(trial);
+    for _ in 0..2 {
+        let frames = frames(trial);
+        let mut other = receiver.clone();
+        let expected = by_single_calls(trial, &mut other, &frames);
+        let found = by_bursts(trial, &mut receiver, &frames);
+        trial.check(found == expected, "not what single calls hand out");
+        trial.check(receiver.image() == other.image(), "another state");
+        trial.check(receiver.pool() == other.pool(), "another pool");
+    }
+}
+
+fn by_bursts(trial: &mut Trial, receiver: &mut ReceiverPair, frames: &[Vec<u8>]) -> HandedOut {
+    let (sizes, octets) = generate::joined(frames);
+    let mut all = HandedOut::default();
+    let mut burst = Burst {
+        sizes: &sizes,
+        octets: &octets,
+        from: (0, 0),
+        output: trial.random.pick(&[4096, 4097, 8192, 20_000, 150_000]),
+    };
+    loop {
+        if trial.random.once_in(4) {
+            refused_between(trial, receiver, burst);
+        }
+        let Ok(taken) = receiver.receive_burst(trial, burst) else {
+            trial.fail("a burst is refused");
+        };
+        all.0.extend(taken.bundles);
+        all.1.extend(taken.refused);
+        let on = taken.next > burst.from;
+        burst.from = taken.next;
+        if burst.from == (sizes.len() as u64, 0) {
+            return all;
+        }
+        trial.check(on, "a burst that does not go on");
+    }
+}
+
+/// A burst that is refused, in one of some ways.
+fn refused_between(trial: &mut Trial, receiver: &mut ReceiverPair, mut burst: Burst) {
+    let count = burst.sizes.len() as u64;
+    let number = match trial.random.below(4) {
+        0 => {
+            burst.output = trial.random.pick(&[0, 1, 4095]);
+            2
+        }
+        1 => {
+            burst.sizes = &[0; BURST_FRAMES + 1];
+            3
+        }
+        2 => {
+            burst.octets = match burst.octets {
+                [] => &[0],
+                [_, rest @ ..] => rest,
+            };
+            19
+        }
+        _ => {
+            let far = trial.random.pick(&[1, 1 << 32, u64::MAX - count]);
+            burst.from = trial.random.pick(&[(count, far), (count + far, 0)]);
+            9
+        }
+    };
+    let refused = receiver.receive_burst(trial, burst);
+    trial.check(refused == Err(number), "another refusal");
+}
+
+fn by_single_calls(
+    trial: &mut Trial,
+    receiver: &mut ReceiverPair,
+    frames: &[Vec<u8>],
+) -> HandedOut {
+    let mut all = HandedOut::default();
+    for (place, frame) in frames.iter().enumerate() {
+        let mut from = 0;
+        loop {
+            match receiver.receive(trial, frame, from, Lending::default()) {
+                Received::Refused(number) => all.1.push((place as u32, number)),
+                Received::Finished => {}
+                Received::Bundle {
+                    length,
+                    next,
+                    number,
+                } => {
+                    let bundle = receiver.bundle(length).to_vec();
+                    all.0.push((number.map_or(NO_NUMBER, u64::from), bundle));
+                    from = next;
+                    continue;
+                }
+            }
+            break;
+        }
+    }
+    all
+}
