@@ -4,10 +4,10 @@ use mathlib.Core.List.{List, [], _∷_, _++_}
 use mathlib.Core.Logic.{_⊎_, inl, inr}
 use mathlib.Core.Option.{Option, none, some}
 use mathlib.Core.Path.{_≡_, refl, sym, ap, _∙_}
-use Prim.Native.Nat.{ℕ, suc, _+_, _*_, _≤_, _<_, _^_}
+use Prim.Native.Nat.{ℕ, suc, _+_, _*_, _≤_, _<_}
 use native.Mathlib.Omega.{arith}
 use native.Mathlib.Nat.{sub-zero}
-use lib.ListN.{length, getD, take, drop, length-drop, length-map}
+use lib.ListN.{length, take, drop, length-drop, length-map}
 use lib.Dec.{eqb}
 use borrow.Author.Tests.{eqb-true, le-leb, not-false}
 use Rattle.octets.specs.Octets.{sumOf}
@@ -28,21 +28,18 @@ use Rattle.frames.proofs.Calls.{few-out, Anyhow, go-on}
 use Rattle.burst.specs.declared.Answer.the-variants.{Taken}
 use Rattle.burst.specs.declared.Refusal.{Refusal}
 use Rattle.burst.specs.Burst.{limits, framesMax, Lists, Reply, taken, misplacedIn, refusal, receiveBurst}
-use Rattle.burst.specs.Equal.{Long, Shaped, Equals, BurstEquals, Given, Continued, ended, onward, Gave, none as gave-none, then, AllSingles}
+use Rattle.burst.specs.Equal.{Sixteen, Long, Shaped, Equals, BurstEquals, Given, Continued, ended, onward, Gave, none as gave-none, then, AllSingles}
 use Rattle.burst.proofs.Starts.{none-behind}
 use Rattle.burst.proofs.Refusals.{went, refused, treated, Admits, admits}
 
 -- lengths of 16 bits come to no more than 65,535 each
-abbrev Short : List ℕ → Type 0
-Short ns = (j : ℕ) → getD ns j 0 < 2 ^ 16
-
-sum-short : (ns : List ℕ) → Short ns → sumOf ns ≤ length ns * 65535
+sum-short : (ns : List ℕ) → Sixteen ns → sumOf ns ≤ length ns * 65535
 unfolding sumOf
 sum-short [] h = omega arith
 sum-short (n ∷ ns) h = omega (arith, h 0, sum-short ns (λ j. h (suc j)))
 
 module _ (D : Draft) (M : (xs : List ℕ) → Sized (length xs) (D .read xs)) (C : (xs : List ℕ) → Priced (D .read xs)) (w : ℕ) (win : Window w) where
-  module _ (b : Board) (sizes octets : List ℕ) (k place : ℕ) (l : Lists) (Z : Shaped D w b) (T : Short sizes) (A : Admits D w b sizes octets k place l) where
+  module _ (b : Board) (sizes octets : List ℕ) (k place : ℕ) (l : Lists) (Z : Shaped D w b) (T : Sixteen sizes) (A : Admits D w b sizes octets k place l) where
     abbrev fs : List (List ℕ)
     fs = drop k (framesOf sizes octets)
 
@@ -101,7 +98,7 @@ module _ (D : Draft) (M : (xs : List ℕ) → Sized (length xs) (D .read xs)) (C
       noted = omega (arith, came .noted .refused);
     }
 
-  module _ (b : Board) (sizes octets : List ℕ) (k place : ℕ) (l : Lists) (bundles used k′ place′ refused₁ : ℕ) (Z : Shaped D w b) (T : Short sizes)
+  module _ (b : Board) (sizes octets : List ℕ) (k place : ℕ) (l : Lists) (bundles used k′ place′ refused₁ : ℕ) (Z : Shaped D w b) (T : Sixteen sizes)
       (e : receiveBurst D w b sizes octets k place l .answer ≡ Taken bundles used k′ place′ refused₁) where
     -- a burst that is taken is not refused
     admitting : Admits D w b sizes octets k place l × (receiveBurst D w b sizes octets k place l ≡ taken (went D w b sizes octets k place l))
@@ -154,7 +151,7 @@ module _ (D : Draft) (M : (xs : List ℕ) → Sized (length xs) (D .read xs)) (C
     calls = go-on D w (roomIn limits (length (l .output))) (framesOf sizes octets) (E .calls) refl (R .calls);
   }
 
-  all-of : {sizes octets : List ℕ} {b after : Board} {k place : ℕ} {gs : List Given} → Short sizes → Shaped D w b → Continued D w sizes octets b k place gs after → AllOf sizes octets b k place gs after
+  all-of : {sizes octets : List ℕ} {b after : Board} {k place : ℕ} {gs : List Given} → Sixteen sizes → Shaped D w b → Continued D w sizes octets b k place gs after → AllOf sizes octets b k place gs after
   all-of {sizes} {octets} T Z (ended {b}) = none-left sizes octets b
   all-of {sizes} {octets} T Z (onward {b} {after} {k} {place} {k′} {place′} {gs} l bundles used refused₁ L e s) =
       one-more sizes octets b after k place k′ place′ gs l bundles used refused₁ (is-singles b sizes octets k place l bundles used k′ place′ refused₁ Z T e L)

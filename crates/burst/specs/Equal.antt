@@ -14,10 +14,14 @@ use Rattle.frames.specs.Singles.{roomIn, always, Singles}
 use Rattle.burst.specs.declared.Answer.the-variants.{Taken}
 use Rattle.burst.specs.Burst.{limits, framesMax, Lists, receiveBurst}
 
+-- lengths of 16 bits
+abbrev pub Sixteen : List ℕ → Type 0
+Sixteen sizes = (j : ℕ) → getD sizes j 0 < 2 ^ 16
+
 -- lists of the lengths that the call has
 pub record Long (l : Lists) : Type 0 where
-  pub lengths : length (l .lengths) ≡ 256
-  pub numbers : length (l .numbers) ≡ 256
+  pub lengths : length (l .lengths) ≡ limits .bundles
+  pub numbers : length (l .numbers) ≡ limits .bundles
   pub places : length (l .places) ≡ framesMax
   pub reasons : length (l .reasons) ≡ framesMax
 
@@ -67,7 +71,7 @@ module _ (D : Draft) (w : ℕ) where
   abbrev pub BurstEquals : Type 0
   BurstEquals =
       (b : Board) (sizes octets : List ℕ) (k place : ℕ) (l : Lists) (bundles used k′ place′ refused : ℕ)
-      → Shaped b → Long l → ((j : ℕ) → getD sizes j 0 < 2 ^ 16)
+      → Shaped b → Long l → Sixteen sizes
       → receiveBurst D w b sizes octets k place l .answer ≡ Taken bundles used k′ place′ refused
       → Equals b sizes octets k place l (receiveBurst D w b sizes octets k place l .board) (receiveBurst D w b sizes octets k place l .lists) bundles used k′ place′ refused
 
@@ -84,6 +88,6 @@ module _ (D : Draft) (w : ℕ) where
   -- they are all the single calls of the list
   abbrev pub AllSingles : Type 0
   AllSingles =
-      (sizes octets : List ℕ) (b after : Board) (gs : List Given) → Shaped b → ((j : ℕ) → getD sizes j 0 < 2 ^ 16)
+      (sizes octets : List ℕ) (b after : Board) (gs : List Given) → Shaped b → Sixteen sizes
       → Continued sizes octets b 0 0 gs after
       → (hs : List Handed) × (ns : List Note) × Gave gs hs ns × Singles D w always 0 (framesOf sizes octets) b 0 0 0 hs ns after (length sizes) 0

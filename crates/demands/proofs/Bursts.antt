@@ -17,7 +17,7 @@ use Rattle.burst.specs.declared.Answer.the-variants.{Taken, Refused}
 use Rattle.burst.specs.declared.Refusal.{Refusal}
 use Rattle.burst.specs.declared.Refusal.the-variants.{Unsound, BufferSize, FrameCount, OctetCount, Misplaced}
 use Rattle.burst.specs.Burst.{refusalNumber, limits, Lists, Reply, refusal, receiveBurst}
-use Rattle.burst.specs.Equal.{Long, Shaped, Equals}
+use Rattle.burst.specs.Equal.{Sixteen, Long, Shaped, Equals}
 use Rattle.burst.proofs.Refusals.{refused, treated, burstNumber, sound-not-one}
 use Rattle.burst.proofs.Equal.{burst-ready, burst-equals-02}
 use Rattle.burst.proofs.Low.{singles-low}
@@ -25,7 +25,6 @@ use Rattle.images.specs.Receiver.{imageOf, stateOf}
 use Rattle.images.proofs.ReceiverImages.{state-back, image-of-is}
 use Rattle.answers.specs.Burst.{status, report, kept}
 use Rattle.board.specs.Burst.{Exported, exported, burst}
-use Rattle.demands.specs.Boards.{Sixteen}
 use Rattle.demands.proofs.Images.{Good, with, fits}
 
 status-number : (a : Answer) → status a ≡ burstNumber a

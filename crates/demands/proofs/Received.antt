@@ -1,11 +1,12 @@
 -- All the single calls of a list are a board's calls as demands 2 and 3 speak of them: each frame that is not refused is taken to its end.
 use mathlib.Core.Path.{_≡_, refl, sym, ap, _∙_}
-use mathlib.Core.Bool.{false≢true}
-use mathlib.Core.Logic.{_⊎_, inl, inr}
+use mathlib.Core.Bool.{Bool, true, false, cond, false≢true}
 use mathlib.Core.Option.{Option, none, some}
-use mathlib.Core.List.{List, [], _∷_, _++_, map, map-append, append-assoc, List·Memᴰ, List·Memᴰ·head, List·Memᴰ·tail, List·Memᴰ·not-nil}
-use Prim.Native.Nat.{ℕ, _+_, _≤_}
+use mathlib.Core.List.{List, [], _∷_, _++_, map, map-append, append-assoc}
+use Prim.Native.Nat.{ℕ, _+_, _*_, _≤_, _<_}
 use native.Mathlib.Omega.{arith}
+use lib.Dec.{ltb}
+use borrow.Author.Tests.{eq-eqb, le-ltb, lt-ltb}
 use lib.ListN.{length, take}
 use Rattle.wire.specs.Frame.{Item, Sized}
 use Rattle.wire.proofs.Order.{good-place}
@@ -14,24 +15,23 @@ use Rattle.wire.proofs.Spans.{sized}
 use Rattle.window.specs.Window.{Window, windowSize, sixteen}
 use Rattle.pieces.specs.Pieces.{bundleMax}
 use Rattle.rows.specs.declared.Origin.{Origin}
-use Rattle.rows.specs.Message.{Draft, Board, Handed, draft02}
+use Rattle.rows.specs.Message.{Draft, Board, Handed, draft02, messagesFrom}
 use Rattle.receiver.specs.declared.Refusal.{Refusal}
 use Rattle.receiver.specs.declared.Answer.the-variants.{Delivered, Refused}
-use Rattle.receiver.specs.Receive.{Reply, refusal, treat, receive}
+use Rattle.receiver.specs.Receive.{Reply, numberOf, unfit, refusal, treat, receive}
 use Rattle.receiver.proofs.Ready.{Ready, receive-ready, fresh-ready}
 use Rattle.receiver.proofs.Standing as Standing
 use Rattle.receiver.proofs.Standing.{at-start, at-next}
 use Rattle.receiver.proofs.Calls.{Treated, through, stops as stops-at, treating, treat-answers, refused-keeps, admitted}
-use Rattle.receiver.proofs.Refusals.{admits, refused}
+use Rattle.receiver.proofs.Refusals.{number-some, fit, refused, treated}
 use Rattle.frames.specs.Frames.{Note, framesOf}
 use Rattle.frames.specs.Singles.{always, Singles, over, stops, delivers, finishes, refuses}
 use Rattle.claims.specs.Record.{WellFormed}
 use Rattle.claims.specs.Calls as Calls
 use Rattle.claims.specs.Calls.{Delivery, Entry, handedOf, Takes, delivered, finished}
-use Rattle.burst.specs.Equal.{Shaped, Given, Gave, none as gave-none, then, Continued}
+use Rattle.burst.specs.Equal.{Sixteen, Shaped, Given, Gave, none as gave-none, then, Continued}
 use Rattle.burst.proofs.Equal.{all-singles-02}
-use Rattle.demands.specs.Boards.{Sixteen}
-use Rattle.demands.specs.Batches.{Batches, over as no-list, batch, bare, Received, BurstsReceive}
+use Rattle.demands.specs.Batches.{Batches, over as no-list, batch, bare, fitting, Received, BurstsReceive}
 
 module _ (D : Draft) (M : (xs : List ℕ) → Sized (length xs) (D .read xs)) (w : ℕ) (win : Window w) where
   -- a frame taken to its end from a place on, and the calls behind it
@@ -81,67 +81,80 @@ module _ (D : Draft) (M : (xs : List ℕ) → Sized (length xs) (D .read xs)) (w
         record { ds = []; rest = _; mid = receive D w b f place output .board; count = count; used = used; takes = finished output a; later = s; same = refl; ready = receive-ready w win D b f place output R }
     part (refuses {place = place} {b = b} output q big free a s) R is A = treat-answers D w b is output q (sym (ap (λ (y : Reply). y .answer) (treats b place is output R A big)) ∙ a)
 
-  -- a frame that a call did not refuse is well-formed
-  well-formed : (b : Board) (f : List ℕ) (place : ℕ) (output : List ℕ) → ((q : Refusal) → receive D w b f place output .answer ≡ Refused q → ⊥) → WellFormed D f
-  well-formed b f place output never = go (refusal D w b f place output) refl
-    where
-      go : (o : Option Refusal) → refusal D w b f place output ≡ o → WellFormed D f
-      go (some q) e = absurd (never q (ap (λ (y : Reply). y .answer) (refused D w b f place output q e)))
-      go none e =
-          let u = admits D w b f place output e .frame-fit in
-          let t = accepted (D .read) M f place (u .accepted) in
-          record { some = u .some; small = u .small; items = t .items; whole = t .whole }
+  module _ (b : Board) (f output : List ℕ) (R : Ready w b) (big : bundleMax ≤ length output) where
+    -- a ready board refuses a frame for itself alone
+    for-itself : refusal D w b f 0 output ≡ unfit D f 0
+    unfolding refusal
+    for-itself = rw (R .sound, eq-eqb (length (b .pool)) (w * bundleMax) (R .pool), le-ltb (length output) bundleMax big)
+
+    not-refused : ((q : Refusal) → receive D w b f 0 output .answer ≡ Refused q → ⊥) → unfit D f 0 ≡ none
+    not-refused never = go (unfit D f 0) refl
+      where
+        go : (o : Option Refusal) → unfit D f 0 ≡ o → unfit D f 0 ≡ none
+        go none e = e
+        go (some q) e = absurd (never q (ap (λ (y : Reply). y .answer) (refused D w b f 0 output q (for-itself ∙ e))))
+
+    is-refused : (q : Refusal) → receive D w b f 0 output .answer ≡ Refused q → 0 < numberOf (unfit D f 0)
+    is-refused q a = go (unfit D f 0) refl
+      where
+        go : (o : Option Refusal) → unfit D f 0 ≡ o → 0 < numberOf (unfit D f 0)
+        go none e = treat-answers D w b (messagesFrom D f 0) output q (sym (ap (λ (y : Reply). y .answer) (treated D w b f 0 output (for-itself ∙ e))) ∙ a)
+        go (some r) e = rw e (number-some r)
+
+  well-formed : (f : List ℕ) → unfit D f 0 ≡ none → WellFormed D f
+  well-formed f e =
+      let u = fit D f 0 e in
+      let t = accepted (D .read) M f 0 (u .accepted) in
+      record { some = u .some; small = u .small; items = t .items; whole = t .whole }
 
   -- all frames of a list, taken or refused, and whatever calls follow
   record AllTaken (fs : List (List ℕ)) (b : Board) (hs : List Handed) (after : Board) : Type 0 where
     entries : List Entry
     calls : (es : List Entry) → Calls.Calls D w after es → Calls.Calls D w b (entries ++ es)
     same : hs ≡ map bare (handedOf entries)
-    drawn : (e : Entry) → List·Memᴰ e entries → List·Memᴰ (e .frame) fs
+    taken : map (λ (e : Entry). e .frame) entries ≡ fitting D fs
     ready : Ready w after
 
   abbrev Later : List (List ℕ) → Type 0
   Later fs = (k count used k′ place′ : ℕ) (b after : Board) (hs : List Handed) (ns : List Note) → Singles D w always k fs b 0 count used hs ns after k′ place′ → Ready w b → AllTaken fs b hs after
 
-  taken-first : (f : List ℕ) (fs : List (List ℕ)) → WellFormed D f → Later fs → Later (f ∷ fs)
-  unfolding handedOf
-  taken-first f fs F later k count used k′ place′ b after hs ns s R =
+  taken-first : (f : List ℕ) (fs : List (List ℕ)) → unfit D f 0 ≡ none → Later fs → Later (f ∷ fs)
+  unfolding handedOf fitting
+  taken-first f fs fits later k count used k′ place′ b after hs ns s R =
+      let F = well-formed f fits in
       let p = part F s R (F .items) (at-start D M f (F .items) (F .whole)) in
       let r = later (k + 1) (p .count) (p .used) k′ place′ (p .mid) after (p .rest) ns (p .later) (p .ready) in
-      let e : Entry = record { frame = f; handed = p .ds } in
       record {
-        entries = e ∷ r .entries;
+        entries = record { frame = f; handed = p .ds } ∷ r .entries;
         calls = λ es c. Calls.taken (p .takes) (r .calls es c);
         same = p .same ∙ ap (λ (l : List Handed). map bare (p .ds) ++ l) (r .same) ∙ sym (map-append bare (p .ds) (handedOf (r .entries)));
-        drawn = λ x m. first x m (r .drawn);
+        taken = rw fits (ap (λ (l : List (List ℕ)). f ∷ l) (r .taken));
         ready = r .ready;
       }
-    where
-      first : {es : List Entry} {ds : List Delivery} (x : Entry) → List·Memᴰ x (record { frame = f; handed = ds } ∷ es) → ((y : Entry) → List·Memᴰ y es → List·Memᴰ (y .frame) fs) → List·Memᴰ (x .frame) (f ∷ fs)
-      first x (List·Memᴰ·head q) d = List·Memᴰ·head (ap (λ (y : Entry). y .frame) q)
-      first x (List·Memᴰ·tail m) d = List·Memᴰ·tail (d x m)
 
-  refused-first : (f : List ℕ) (fs : List (List ℕ)) (b after : Board) (hs : List Handed) (output : List ℕ) (q : Refusal) → receive D w b f 0 output .answer ≡ Refused q → AllTaken fs b hs after → AllTaken (f ∷ fs) b hs after
-  refused-first f fs b after hs output q a r = record {
+  refused-first : (f : List ℕ) (fs : List (List ℕ)) (b after : Board) (hs : List Handed) (output : List ℕ) (q : Refusal) → 0 < numberOf (unfit D f 0) → receive D w b f 0 output .answer ≡ Refused q
+      → AllTaken fs b hs after → AllTaken (f ∷ fs) b hs after
+  unfolding fitting
+  refused-first f fs b after hs output q n a r = record {
     entries = r .entries;
     calls = λ es c. Calls.between {es = r .entries ++ es} f 0 output q a (rw (refused-keeps D w b f 0 output q a) (r .calls es c));
     same = r .same;
-    drawn = λ x m. List·Memᴰ·tail (r .drawn x m);
+    taken = rw (lt-ltb 0 (numberOf (unfit D f 0)) n) (r .taken);
     ready = r .ready;
   }
 
   one : (f : List ℕ) (fs : List (List ℕ)) → Later fs → Later (f ∷ fs)
   one f fs later k count used k′ place′ b after hs ns (stops e p) R = absurd (false≢true (sym e))
   one f fs later k count used k′ place′ b after hs ns (delivers output n next origin big free a s) R =
-      taken-first f fs (well-formed b f 0 output (λ q x. let z : _≡_ {A = ℕ} 0 1 = cc in omega arith)) later k count used k′ place′ b after _ ns (delivers output n next origin big free a s) R
+      taken-first f fs (not-refused b f output R big (λ q x. let z : _≡_ {A = ℕ} 0 1 = cc in omega arith)) later k count used k′ place′ b after _ ns (delivers output n next origin big free a s) R
   one f fs later k count used k′ place′ b after hs ns (finishes output big free a s) R =
-      taken-first f fs (well-formed b f 0 output (λ q x. let z : _≡_ {A = ℕ} 0 1 = cc in omega arith)) later k count used k′ place′ b after hs ns (finishes output big free a s) R
+      taken-first f fs (not-refused b f output R big (λ q x. let z : _≡_ {A = ℕ} 0 1 = cc in omega arith)) later k count used k′ place′ b after hs ns (finishes output big free a s) R
   one f fs later k count used k′ place′ b after hs ns (refuses {ns = ns₁} output q big free a s) R =
-      refused-first f fs b after hs output q a (later (k + 1) count used k′ place′ b after hs ns₁ s R)
+      refused-first f fs b after hs output q (is-refused b f output R big q a) a (later (k + 1) count used k′ place′ b after hs ns₁ s R)
 
   none-left : Later []
-  unfolding handedOf
-  none-left k count used k′ place′ b after hs ns over R = record { entries = []; calls = λ es c. c; same = refl; drawn = λ e m. absurd (List·Memᴰ·not-nil m); ready = R }
+  unfolding handedOf fitting
+  none-left k count used k′ place′ b after hs ns over R = record { entries = []; calls = λ es c. c; same = refl; taken = refl; ready = R }
 
   all-taken : (fs : List (List ℕ)) → Later fs
   all-taken [] = none-left
@@ -158,22 +171,15 @@ unfolding handedOf
 handed-append [] es′ = refl
 handed-append (e ∷ es) es′ = ap (λ (l : List Delivery). e .handed ++ l) (handed-append es es′) ∙ sym (append-assoc (e .handed) (handedOf es) (handedOf es′))
 
-member-either : {A : Type 0} (x : A) (xs ys : List A) → List·Memᴰ x (xs ++ ys) → List·Memᴰ x xs ⊎ List·Memᴰ x ys
-member-either x [] ys m = inr m
-member-either x (z ∷ xs) ys (List·Memᴰ·head q) = inl (List·Memᴰ·head q)
-member-either x (z ∷ xs) ys (List·Memᴰ·tail m) = go (member-either x xs ys m)
+fitting-append : (fs fs′ : List (List ℕ)) → fitting draft02 (fs ++ fs′) ≡ fitting draft02 fs ++ fitting draft02 fs′
+unfolding fitting
+fitting-append [] fs′ = refl
+fitting-append (f ∷ fs) fs′ = go (ltb 0 (numberOf (unfit draft02 f 0))) (fitting-append fs fs′)
   where
-    go : List·Memᴰ x xs ⊎ List·Memᴰ x ys → List·Memᴰ x (z ∷ xs) ⊎ List·Memᴰ x ys
-    go (inl n) = inl (List·Memᴰ·tail n)
-    go (inr n) = inr n
-
-member-left : {A : Type 0} (x : A) (xs ys : List A) → List·Memᴰ x xs → List·Memᴰ x (xs ++ ys)
-member-left x (z ∷ xs) ys (List·Memᴰ·head q) = List·Memᴰ·head q
-member-left x (z ∷ xs) ys (List·Memᴰ·tail m) = List·Memᴰ·tail (member-left x xs ys m)
-
-member-right : {A : Type 0} (x : A) (xs ys : List A) → List·Memᴰ x ys → List·Memᴰ x (xs ++ ys)
-member-right x [] ys m = m
-member-right x (z ∷ xs) ys m = List·Memᴰ·tail (member-right x xs ys m)
+    go : (b : Bool) → fitting draft02 (fs ++ fs′) ≡ fitting draft02 fs ++ fitting draft02 fs′
+        → cond b (fitting draft02 (fs ++ fs′)) (f ∷ fitting draft02 (fs ++ fs′)) ≡ cond b (fitting draft02 fs) (f ∷ fitting draft02 fs) ++ fitting draft02 fs′
+    go true later = later
+    go false later = ap (λ (l : List (List ℕ)). f ∷ l) later
 
 shaped : {b : Board} → Ready windowSize b → Shaped draft02 windowSize b
 shaped R = record { rows = R .rows; indexes = λ r r<. R .shaped r r< .indexes64; lengths = λ r r<. R .shaped r r< .lengths64 }
@@ -191,17 +197,16 @@ one-list sizes octets b mid gs gs′ fs short R c later =
       notes = x .1 ++ r .notes;
       calls = t .calls (r .entries) (r .calls);
       gave = rw all (gave-behind (x .2) (r .gave));
-      drawn = λ e m. go e (t .drawn) (r .drawn) (member-either e (t .entries) (r .entries) m);
+      taken =
+          map-append (λ (e : Entry). e .frame) (t .entries) (r .entries)
+          ∙ ap (λ (l : List (List ℕ)). l ++ map (λ (e : Entry). e .frame) (r .entries)) (t .taken)
+          ∙ ap (λ (l : List (List ℕ)). fitting draft02 (framesOf sizes octets) ++ l) (r .taken)
+          ∙ sym (fitting-append (framesOf sizes octets) fs);
     }
-  where
-    go : {es es′ : List Entry} (e : Entry) → ((y : Entry) → List·Memᴰ y es → List·Memᴰ (y .frame) (framesOf sizes octets)) → ((y : Entry) → List·Memᴰ y es′ → List·Memᴰ (y .frame) fs)
-        → List·Memᴰ e es ⊎ List·Memᴰ e es′ → List·Memᴰ (e .frame) (framesOf sizes octets ++ fs)
-    go e d d′ (inl m) = member-left (e .frame) (framesOf sizes octets) fs (d e m)
-    go e d d′ (inr m) = member-right (e .frame) (framesOf sizes octets) fs (d′ e m)
 
 received : {b : Board} {gs : List Given} {fs : List (List ℕ)} → Batches b gs fs → Ready windowSize b → Received b gs fs
-unfolding handedOf
-received no-list R = record { entries = []; notes = []; calls = Calls.over; gave = gave-none; drawn = λ e m. absurd (List·Memᴰ·not-nil m) }
+unfolding handedOf fitting
+received no-list R = record { entries = []; notes = []; calls = Calls.over; gave = gave-none; taken = refl }
 received (batch {b} {mid} {gs} {gs′} {fs} sizes octets short c bs) R = one-list sizes octets b mid gs gs′ fs short R c (λ R₁. received bs R₁)
 
 pub bursts-receive : BurstsReceive

@@ -2,7 +2,7 @@
 use mathlib.Core.Path.{_≡_}
 use mathlib.Core.Bool.{cond}
 use mathlib.Core.List.{List, [], _∷_}
-use Prim.Native.Nat.{ℕ, _*_, _<_, _^_}
+use Prim.Native.Nat.{ℕ, _*_, _^_}
 use lib.ListN.{length, getD, take}
 use lib.Dec.{eqb}
 use Rattle.octets.specs.Octets.{Octets}
@@ -11,7 +11,7 @@ use Rattle.pieces.specs.Pieces.{bundleMax}
 use Rattle.rows.specs.declared.Origin.{Origin}
 use Rattle.rows.specs.declared.Origin.the-variants.{Whole, Transfer}
 use Rattle.burst.specs.Burst.{Lists}
-use Rattle.burst.specs.Equal.{Long}
+use Rattle.burst.specs.Equal.{Sixteen, Long}
 use Rattle.board.specs.Burst as Bursts
 use Rattle.board.specs.Receiver as Exported
 use Rattle.board.specs.Receiver.{Exported, received}
@@ -74,10 +74,6 @@ pub data Calls : Board → List Entry → Type 0 where
   between : {b : Board} {es : List Entry} (other : List ℕ) (place : ℕ) (output result : List ℕ)
       → (call b other place output result .status ≡ 0 → ⊥)
       → Calls (left (call b other place output result)) es → Calls b es
-
--- lengths of 16 bits
-abbrev pub Sixteen : List ℕ → Type 0
-Sixteen sizes = (j : ℕ) → getD sizes j 0 < 2 ^ 16
 
 -- An image after start and any receiving calls and bursts, refused ones too, with frames of octets and any pools.
 pub data Reached : List ℕ → Type 0 where

@@ -12,7 +12,7 @@ use Rattle.images.specs.Sender as Sender
 use Rattle.answers.specs.Receiver.{numberIn}
 use Rattle.board.specs.Receiver.{received, checked as receiverChecked}
 use Rattle.burst.specs.Burst.{Lists}
-use Rattle.burst.specs.Equal.{Long, Equals}
+use Rattle.burst.specs.Equal.{Sixteen, Long, Equals}
 use Rattle.board.specs.Burst as Bursts
 use Rattle.board.specs.Burst.{burst}
 use Rattle.board.specs.Sender.{checked as senderChecked}
@@ -24,7 +24,7 @@ use Rattle.claims.specs.Use.{Call}
 use Rattle.claims.specs.Demand3.{Claim}
 use Rattle.claims.specs.Demand2.{Arrival}
 use Rattle.demands.specs.Boards as Boards
-use Rattle.demands.specs.Boards.{Board, Fresh, Calls, Sixteen}
+use Rattle.demands.specs.Boards.{Board, Fresh, Calls}
 use Rattle.demands.specs.Senders as Senders
 use Rattle.demands.specs.Senders.{Used, Flushed, callOf}
 
