@@ -5,6 +5,17 @@
  * or in pieces; a receiver takes frames, in any order and with losses, and hands the bundles out.
  * A recording keeps frames in order, and can be played back on a fresh receiver.
  *
+ * Drafts. There are two: draft-ietf-dtn-btpu-02, here draft 02, and draft-ietf-dtn-btpu-00, here
+ * draft 00. In draft 02 the indexes of a transfer's pieces rise from 0, the last piece is an end,
+ * and headers have flags and may have hints behind them. In draft 00 the first piece is a start and
+ * has the highest index, indexes fall to 0, lengths have 24 bits, and there are neither flags nor
+ * hints. Receiver and sender are set to one draft by their start, keep it in their image, and all
+ * calls with that image go by it. A frame does not say of which draft it is, so that frames of the
+ * other draft are not told apart: a receiver reads every frame as one of its own draft. It may
+ * refuse them, give up their transfers, or misread them and hand out a single piece as a bundle.
+ * Set receivers and senders of one link to the same draft. A recording has no draft, and a playback
+ * is always of draft 02.
+ *
  * Memory. The library allocates nothing and keeps nothing. The caller lends every octet for the
  * time of a call: the image of the state, the pool, the frame, the output. What is lent must be
  * valid for the length given, or for the length in its declaration, and what a call may write to
@@ -19,22 +30,24 @@
  * function names another. A refused call changes nothing that was lent; `result` is written only
  * where a call is carried out. Entries of it that carry no meaning for an answer stay as they were.
  *
- * Images. The state of a receiver or a sender is an image of a fixed number of octets. Let
- * btpu_receiver_start or btpu_sender_start write it first, and hand it back as it was left: no call
- * refuses it then as unsound. It may be stored and used again later, together with the receiver's
- * pool, or the sender's frame; btpu_receiver_check and btpu_sender_check say whether a stored image
- * is good. All numbers in an image are big-endian. A call refuses an image that is not a sound
- * state.
+ * Images. The state of a receiver or a sender is an image of a fixed number of octets. Let a start
+ * write it first, and hand it back as it was left: no call refuses it then as unsound. It may be
+ * stored and used again later, together with the receiver's pool, or the sender's frame;
+ * btpu_receiver_check and btpu_sender_check say whether a stored image is good. All numbers in an
+ * image are big-endian. A call refuses an image that is not a sound state.
  *
  * Receiver image, BTPU_RECEIVER_IMAGE octets:
  *
  *     octet    0        1 if a greatest transfer number is known, else 0
- *     octets   1 to 3   zero
+ *     octet    1        zero
+ *     octet    2        1 for draft 00, 0 for draft 02
+ *     octet    3        zero
  *     octets   4 to 7   the greatest transfer number so far; zero if none is known
  *     then, for each of 16 rows, 196 octets; transfer number n has row n modulo 16:
  *       octet  0        phase: 0 Free, 1 Open, 2 Done, 3 Cancelled, 4 Given up
- *       octet  1        1 if the index of the last piece is known, else 0
- *       octet  2        the index of the last piece; zero if it is not known
+ *       octet  1        1 if the highest index is known, that of the end, in draft 00 of the
+ *                       start; else 0
+ *       octet  2        the highest index; zero if it is not known
  *       octet  3        number of pieces held
  *       octets 4 to 67  the index of each piece held, in order of arrival; then zeros
  *       octets 68 to 195  the length of each piece held, two octets each; then zeros
@@ -48,7 +61,8 @@
  *     octets   2 to 3   fill: octets of the current frame that are written
  *     octets   4 to 7   number of the next transfer
  *     octet    8        1 if a transfer is begun, else 0
- *     octets   9 to 11  zero
+ *     octet    9        1 for draft 00, 0 for draft 02
+ *     octets  10 to 11  zero
  *     octets  12 to 15  number of the transfer begun
  *     octets  16 to 17  length of its bundle
  *     octets  18 to 19  octets of it that are placed
@@ -96,9 +110,11 @@ extern "C" {
 #define BTPU_RECORDED_OCTETS 61440
 #define BTPU_PLAYED_BUNDLES 15360
 
-/* The sender's image: where the flag stands that tells whether a transfer is begun */
+/* Octets of an image that a host may look at */
 
-#define BTPU_SENDER_BEGUN 8
+#define BTPU_RECEIVER_DRAFT 2 /* 1 for draft 00, 0 for draft 02 */
+#define BTPU_SENDER_BEGUN 8   /* 1 if a transfer is begun, else 0 */
+#define BTPU_SENDER_DRAFT 9   /* 1 for draft 00, 0 for draft 02 */
 
 /* Entries of a result */
 
@@ -149,7 +165,11 @@ extern "C" {
 #define BTPU_REFUSAL(returned) ((returned) & UINT32_C(255))
 #define BTPU_REFUSAL_PLACE(returned) ((returned) >> 8)
 
-/* Refusals */
+/*
+ * Refusals. In draft 00 a message is refused with 4, 6 or 8 alone. All three octets behind the type
+ * are the length there, so that what draft 02 takes for flags counts for 6; 8 is for a start or a
+ * segment below 8 octets, or a cancel of other than 4.
+ */
 
 #define BTPU_REFUSED_STATE 1         /* not a sound state: all calls with an image but the starts */
 #define BTPU_REFUSED_LENT 2          /* receive, receive_burst: pool not 65,536 octets, or output
@@ -157,9 +177,11 @@ extern "C" {
 #define BTPU_REFUSED_FRAME_LENGTH 3  /* receive: frame of 0 or more than 2,048 octets;
                                         receive_burst: more than 64 frames */
 #define BTPU_REFUSED_HEADER 4        /* receive: fewer than 4 octets left for a header */
-#define BTPU_REFUSED_FLAG 5          /* never given: reserved flag bits are ignored */
+#define BTPU_REFUSED_FLAG 5          /* never given: reserved flag bits are ignored, and
+                                        draft 00 has none */
 #define BTPU_REFUSED_LENGTH 6        /* receive: a length runs past the frame */
-#define BTPU_REFUSED_HINTS 7         /* receive: a chain of hints runs past its message */
+#define BTPU_REFUSED_HINTS 7         /* receive: a chain of hints runs past its message; draft
+                                        02 only */
 #define BTPU_REFUSED_CONTENT 8       /* receive: content of a transfer message too short, or of a
                                         cancel not 4 octets */
 #define BTPU_REFUSED_PLACE 9         /* receive, receive_burst: not a good place */
@@ -179,10 +201,16 @@ extern "C" {
                                         fewer entries than btpu_play asks for */
 
 /*
- * Writes the image of a fresh receiver. The old content of the image does not matter.
+ * Writes the image of a fresh receiver of draft 02. The old content of the image does not matter.
  * Refusals: none.
  */
 uint32_t btpu_receiver_start(uint8_t state[BTPU_RECEIVER_IMAGE]);
+
+/*
+ * The same for a receiver of draft 00.
+ * Refusals: none.
+ */
+uint32_t btpu_receiver_start_00(uint8_t state[BTPU_RECEIVER_IMAGE]);
 
 /*
  * Whether an image is a sound state, for a host that restores a stored one.
@@ -205,7 +233,7 @@ uint32_t btpu_receiver_check(const uint8_t state[BTPU_RECEIVER_IMAGE]);
  *
  * The pool has BTPU_POOL octets, of any content at first, and belongs to this receiver: hand it
  * back as it was left. The output has at least BTPU_MIN_OUTPUT octets.
- * Refusals: 1 to 9.
+ * Refusals: 1 to 9, but never 5, and 7 only in draft 02.
  */
 uint32_t btpu_receive(uint8_t state[BTPU_RECEIVER_IMAGE], uint8_t *pool, uint64_t pool_len,
                       const uint8_t *frame, uint64_t frame_len, uint64_t place, uint8_t *output,
@@ -219,11 +247,11 @@ uint32_t btpu_receive(uint8_t state[BTPU_RECEIVER_IMAGE], uint8_t *pool, uint64_
  * behind another; a frame too long for 16 bits may be given as any length above 2,048. They are
  * taken from frame `frame`, from 0, and from `place` in it on. A frame that btpu_receive would
  * refuse, other than for its place, is passed over, whatever the place: its number among the
- * frames, from 0, goes to places and the number of its refusal (3, 4, 6, 7 or 8) to reasons.
- * Before each message, and before a frame is passed over, the call stops if BTPU_BURST_BUNDLES
- * bundles are out or fewer than BTPU_MIN_OUTPUT octets of output are left. To take all frames,
- * call with frame 0 and place 0, then with the frame and place answered, until that frame is
- * `frames`. At a frame's end the answer is the next frame and place 0.
+ * frames, from 0, goes to places and the number of its refusal (3, 4, 6, 8, in draft 02 also 7) to
+ * reasons. Before each message, and before a frame is passed over, the call stops if
+ * BTPU_BURST_BUNDLES bundles are out or fewer than BTPU_MIN_OUTPUT octets of output are left. To
+ * take all frames, call with frame 0 and place 0, then with the frame and place answered, until
+ * that frame is `frames`. At a frame's end the answer is the next frame and place 0.
  *
  * The bundles go one behind another to the front of the output, their lengths to the front of
  * lengths, their transfer numbers or BTPU_NO_NUMBER to the front of numbers; the entries
@@ -245,12 +273,19 @@ uint32_t btpu_receive_burst(uint8_t state[BTPU_RECEIVER_IMAGE], uint8_t *pool, u
                             uint64_t result[BTPU_BURST_RESULT]);
 
 /*
- * Writes the image of a fresh sender with frames of frame_size octets, whose first transfer has
- * the number first_number. The old content of the image does not matter.
+ * Writes the image of a fresh sender of draft 02 with frames of frame_size octets, whose first
+ * transfer has the number first_number. The old content of the image does not matter.
  * Refusal: 14.
  */
 uint32_t btpu_sender_start(uint8_t state[BTPU_SENDER_IMAGE], uint64_t frame_size,
                            uint32_t first_number);
+
+/*
+ * The same for a sender of draft 00.
+ * Refusal: 14.
+ */
+uint32_t btpu_sender_start_00(uint8_t state[BTPU_SENDER_IMAGE], uint64_t frame_size,
+                              uint32_t first_number);
 
 /*
  * Whether an image is a sound state, for a host that restores a stored one.
@@ -305,9 +340,9 @@ uint32_t btpu_recording_open(const uint8_t *recording, uint64_t recording_len,
                              uint16_t sizes[BTPU_RECORDED_FRAMES], uint64_t result[BTPU_RESULT]);
 
 /*
- * Plays a recording on a fresh receiver, until `limit` messages are treated or all are. It may
- * stop inside a frame; a frame behind the last message is not looked at. Every message counts,
- * a run of padding as one; a refused frame has none.
+ * Plays a recording on a fresh receiver of draft 02, until `limit` messages are treated or all
+ * are. It may stop inside a frame; a frame behind the last message is not looked at. Every message
+ * counts, a run of padding as one; a refused frame has none.
  *
  * The bundles go one behind another to the front of the output, their lengths to the front of
  * lengths; for each frame refused, its place in the recording, from 0, goes to places and the

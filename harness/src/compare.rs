@@ -1,8 +1,11 @@
 //! Calls made on both sides at once, and what they return and every octet lent compared.
 
-use crate::coverage::{Coverage, FRAME_LENGTHS, FRAME_SIZES, NEVER_GIVEN};
-use crate::model::interface;
+use crate::coverage::{Coverage, NEVER_GIVEN, NEVER_GIVEN_00};
+use crate::generate::{RECEIVER_DRAFT, SENDER_DRAFT};
+use crate::model::sender::State;
+use crate::model::{interface, Draft};
 use crate::random::Random;
+use crate::side::{Exported, Model, Side};
 use btpu::raw::{self, MIN_OUTPUT, NO_NUMBER, POOL, RECEIVER_IMAGE, SENDER_IMAGE};
 
 mod burst;
@@ -15,6 +18,8 @@ pub use recording::{Opened, PlayMemory, Played};
 pub struct Trial<'a> {
     pub scenario: &'static str,
     pub seed: u64,
+    /// The draft of its boards and senders, which the seed decides unless it is set.
+    pub draft: Draft,
     pub random: Random,
     pub coverage: &'a mut Coverage,
     calls: u64,
@@ -22,10 +27,12 @@ pub struct Trial<'a> {
 
 impl<'a> Trial<'a> {
     pub fn new(scenario: &'static str, seed: u64, coverage: &'a mut Coverage) -> Trial<'a> {
+        let mut random = Random::new(seed);
         Trial {
             scenario,
             seed,
-            random: Random::new(seed),
+            draft: random.pick(&Draft::BOTH),
+            random,
             coverage,
             calls: 0,
         }
@@ -41,8 +48,8 @@ impl<'a> Trial<'a> {
     #[track_caller]
     pub fn fail(&self, what: &str) -> ! {
         panic!(
-            "scenario {}, seed {}, call {}: {what}",
-            self.scenario, self.seed, self.calls
+            "scenario {}, seed {}, {}, call {}: {what}",
+            self.scenario, self.seed, self.draft, self.calls
         );
     }
 
@@ -70,10 +77,12 @@ impl<'a> Trial<'a> {
         [(); 4].map(|_| self.random.draw())
     }
 
-    /// Compares what a call returned and left in its result; the answer is the refusal's number.
+    /// Compares what a call with an image of a draft, or with none, returned and left in its result; the
+    /// answer is the refusal's number.
     #[track_caller]
     fn same_answer<const ENTRIES: usize>(
         &mut self,
+        draft: Option<Draft>,
         model: (u32, [u64; ENTRIES]),
         exported: (u32, [u64; ENTRIES]),
     ) -> u32 {
@@ -82,32 +91,46 @@ impl<'a> Trial<'a> {
                 .map(|(returned, result)| format!("{returned:#x} with result {result:x?}"));
             self.fail(&format!("model: {model}, exported: {exported}"));
         }
-        self.refusal(model.0)
+        self.refusal(draft, model.0)
     }
 
     /// Takes apart what a call without a result returned on both sides.
     #[track_caller]
-    fn same_returned(&mut self, model: u32, exported: u32) -> u32 {
+    fn same_returned(&mut self, draft: Option<Draft>, model: u32, exported: u32) -> u32 {
         if model != exported {
             self.fail(&format!("model: {model:#x}, exported: {exported:#x}"));
         }
-        self.refusal(model)
+        self.refusal(draft, model)
     }
 
     /// Counts a refusal, or that there is none; the answer is its number.
     #[track_caller]
-    fn refusal(&mut self, returned: u32) -> u32 {
+    fn refusal(&mut self, draft: Option<Draft>, returned: u32) -> u32 {
         let (number, place) = (returned & 0xff, returned >> 8);
         let entry = number as usize;
         let given = entry < self.coverage.refusals.len() && !NEVER_GIVEN.contains(&entry);
         self.check(given, "no such refusal");
-        if (4..=8).contains(&number) {
-            self.coverage.refused_at(place);
-        } else {
-            self.check(place == 0, "a place without a bad message");
-        }
+        let given = draft != Some(Draft::D00) || !NEVER_GIVEN_00.contains(&entry);
+        self.check(given, "no such refusal in draft 00");
+        let bad_message = (4..=8).contains(&number);
+        self.check(bad_message || place == 0, "a place without a bad message");
         self.coverage.refusals[entry] += 1;
+        if let Some(draft) = draft {
+            let cases = self.coverage.of_mut(draft);
+            cases.refusals[entry] += 1;
+            if bad_message {
+                cases.refused_at(place);
+            }
+        }
         number
+    }
+
+    /// The draft of frames that come to this trial's boards: mostly theirs.
+    pub fn draft_of_frames(&mut self) -> Draft {
+        match self.random.once_in(8) {
+            true => self.draft.other(),
+            false => self.draft,
+        }
     }
 }
 
@@ -218,25 +241,36 @@ impl ReceiverPair {
         pair
     }
 
+    /// A fresh receiver of the trial's draft.
     pub fn start(trial: &mut Trial) -> ReceiverPair {
         let image = trial.random.array();
         let mut pair = ReceiverPair::new(trial, &image);
-        pair.restart(trial);
+        pair.restart(trial, trial.draft);
         pair
     }
 
     /// The receiver's start on the images as they are.
-    pub fn restart(&mut self, trial: &mut Trial) {
+    pub fn restart(&mut self, trial: &mut Trial, draft: Draft) {
         trial.calls += 1;
         trial.coverage.starts += 1;
-        let returned = interface::receiver_start(&mut self.image);
-        let exported = raw::receiver_start(self.exported_image.array());
-        let number = trial.same_returned(returned, exported);
+        let returned = Model::receiver_start(draft, &mut self.image);
+        let exported = Exported::receiver_start(draft, self.exported_image.array());
+        let number = trial.same_returned(Some(draft), returned, exported);
         trial.check(number == 0, "a receiver's start is refused");
+        trial.check(self.draft() == Some(draft), "the draft of a fresh receiver");
         self.same_image(trial);
         self.image_before = self.image;
         self.check(trial);
         trial.check(self.sound, "a fresh receiver is not sound");
+    }
+
+    /// The draft that the image says.
+    pub fn draft(&self) -> Option<Draft> {
+        Draft::of_octet(self.image[RECEIVER_DRAFT])
+    }
+
+    pub fn is_sound(&self) -> bool {
+        self.sound
     }
 
     /// The check of the carried image.
@@ -244,9 +278,13 @@ impl ReceiverPair {
         trial.calls += 1;
         let returned = interface::receiver_check(&self.image);
         let exported = raw::receiver_check(self.exported_image.array());
-        self.sound = trial.same_returned(returned, exported) == 0;
+        self.sound = trial.same_returned(self.draft(), returned, exported) == 0;
         trial.check(returned <= 1, "another refusal than 1");
-        trial.coverage.checked_receivers[usize::from(!self.sound)] += 1;
+        trial.coverage.checks += 1;
+        if let Some(draft) = self.draft() {
+            let cases = trial.coverage.of_mut(draft);
+            cases.checked_receivers[usize::from(!self.sound)] += 1;
+        }
         self.same_image(trial);
     }
 
@@ -300,77 +338,19 @@ impl ReceiverPair {
     ) -> Received {
         let lent_result = trial.begin_call();
         trial.coverage.receiving_calls += 1;
-        if self.exported_frame.get() != frame {
-            self.exported_frame = Lent::new(frame);
-        }
-        if self.output.len() != lending.output {
-            self.output = trial.random.octets(lending.output);
-            self.output_before = self.output.clone();
-            self.exported_output = Lent::new(&self.output);
-        }
-        let mut result = lent_result;
-        let mut exported_result = lent_result;
-        let (returned, exported) = match lending.other_pool {
-            None => (
-                interface::receive(
-                    &mut self.image,
-                    &mut self.pool,
-                    frame,
-                    place,
-                    &mut self.output,
-                    &mut result,
-                    trial.coverage,
-                ),
-                raw::receive(
-                    self.exported_image.array(),
-                    self.exported_pool.lend(),
-                    self.exported_frame.get(),
-                    place,
-                    self.exported_output.lend(),
-                    &mut exported_result,
-                ),
-            ),
-            Some(length) => {
-                let mut other = trial.random.octets(length);
-                let mut exported_other = Lent::new(&other);
-                let returned = interface::receive(
-                    &mut self.image,
-                    &mut other,
-                    frame,
-                    place,
-                    &mut self.output,
-                    &mut result,
-                    trial.coverage,
-                );
-                let exported = raw::receive(
-                    self.exported_image.array(),
-                    exported_other.lend(),
-                    self.exported_frame.get(),
-                    place,
-                    self.exported_output.lend(),
-                    &mut exported_result,
-                );
-                trial.same(&other, exported_other.get(), "other pool");
-                trial.check(exported_other.guards_stay(), "written past the pool");
-                (returned, exported)
-            }
-        };
-        let number = trial.same_answer((returned, result), (exported, exported_result));
-        self.same_image(trial);
-        trial.same(&self.pool, self.exported_pool.get(), "pool");
-        trial.same(&self.output, self.exported_output.get(), "output");
-        trial.same(frame, self.exported_frame.get(), "frame");
-        let lent = [
-            &self.exported_pool,
-            &self.exported_output,
-            &self.exported_frame,
-        ];
-        trial.check(
-            lent.iter().all(|lent| lent.guards_stay()),
-            "written past what was lent",
-        );
+        let draft = self.draft();
+        self.lend(trial, frame, lending.output);
+        let [model, exported] = self.call(trial, frame, place, lending.other_pool, lent_result);
+        let number = trial.same_answer(draft, model, exported);
+        self.same_lent(trial, frame);
         trial.check((number == 1) != self.sound, "refusal 1 against the check");
-        let received = self.classify(trial, returned, lent_result, result, frame.len());
+        trial.check(self.draft() == draft, "another draft");
+        let (returned, result) = model;
+        let received = self.classify(trial, returned, lent_result, result, frame);
+        if let Some(draft) = draft {
+            let cases = trial.coverage.of_mut(draft);
+            cases.received(draft, frame, returned >> 8, received);
+        }
         self.told = match received {
             Received::Refused(_) => vec![u64::from(returned)],
             Received::Finished => vec![0, result[0]],
@@ -386,21 +366,87 @@ impl ReceiverPair {
         received
     }
 
-    /// Checks what holds of every answer, and counts it.
+    /// Prepares a frame, and an output of this length.
+    fn lend(&mut self, trial: &mut Trial, frame: &[u8], output: usize) {
+        if self.exported_frame.get() != frame {
+            self.exported_frame = Lent::new(frame);
+        }
+        if self.output.len() != output {
+            self.output = trial.random.octets(output);
+            self.output_before = self.output.clone();
+            self.exported_output = Lent::new(&self.output);
+        }
+    }
+
+    /// The call on both sides, with what was returned and left in the result.
+    fn call(
+        &mut self,
+        trial: &mut Trial,
+        frame: &[u8],
+        place: u64,
+        other_pool: Option<usize>,
+        lent: [u64; 4],
+    ) -> [(u32, [u64; 4]); 2] {
+        let (mut result, mut exported_result) = (lent, lent);
+        let mut other = other_pool.map(|length| trial.random.octets(length));
+        let mut exported_other = other.as_deref().map(Lent::new);
+        // An image without a draft is refused before there is anything to observe.
+        let observer = trial.coverage.of_mut(self.draft().unwrap_or(Draft::D02));
+        let returned = interface::receive(
+            &mut self.image,
+            other.as_mut().unwrap_or(&mut self.pool),
+            frame,
+            place,
+            &mut self.output,
+            &mut result,
+            observer,
+        );
+        let pool = exported_other.as_mut().unwrap_or(&mut self.exported_pool);
+        let exported = raw::receive(
+            self.exported_image.array(),
+            pool.lend(),
+            self.exported_frame.get(),
+            place,
+            self.exported_output.lend(),
+            &mut exported_result,
+        );
+        if let (Some(other), Some(exported)) = (&other, &exported_other) {
+            trial.same(other, exported.get(), "other pool");
+            trial.check(exported.guards_stay(), "written past the pool");
+        }
+        [(returned, result), (exported, exported_result)]
+    }
+
+    /// Compares all that was lent.
+    #[track_caller]
+    fn same_lent(&self, trial: &Trial, frame: &[u8]) {
+        self.same_image(trial);
+        trial.same(&self.pool, self.exported_pool.get(), "pool");
+        trial.same(&self.output, self.exported_output.get(), "output");
+        trial.same(frame, self.exported_frame.get(), "frame");
+        let lent = [
+            &self.exported_pool,
+            &self.exported_output,
+            &self.exported_frame,
+        ];
+        trial.check(
+            lent.iter().all(|lent| lent.guards_stay()),
+            "written past what was lent",
+        );
+    }
+
+    /// Checks what holds of every answer.
     fn classify(
         &self,
-        trial: &mut Trial,
+        trial: &Trial,
         returned: u32,
         lent_result: [u64; 4],
         result: [u64; 4],
-        frame_length: usize,
+        frame: &[u8],
     ) -> Received {
-        if let Some(edge) = FRAME_LENGTHS.iter().position(|&edge| edge == frame_length) {
-            trial.coverage.frame_lengths[edge] += 1;
-        }
         if returned != 0 {
             let place = (returned >> 8) as usize;
-            let inside = place == 0 || place < frame_length;
+            let inside = place == 0 || place < frame.len();
             trial.check(inside, "place past the frame");
             trial.check(result == lent_result, "result of a refused call");
             trial.same(&self.image, &self.image_before, "state of a refused call");
@@ -415,26 +461,18 @@ impl ReceiverPair {
         if result[0] == 0 {
             trial.check(result[1..] == lent_result[1..], "result of Finished");
             trial.same(&self.output, &self.output_before, "output of Finished");
-            trial.coverage.finished += 1;
             return Received::Finished;
         }
         trial.check(result[0] == 1, "no such answer");
         let (length, next) = (result[1] as usize, result[2]);
         trial.check(length <= MIN_OUTPUT, "bundle too long");
-        trial.check(next <= frame_length as u64, "next place past the frame");
+        trial.check(next <= frame.len() as u64, "next place past the frame");
         trial.check(result[3] <= NO_NUMBER, "no such number");
         trial.same(
             &self.output[length..],
             &self.output_before[length..],
             "output behind the bundle",
         );
-        if result[3] == NO_NUMBER {
-            trial.coverage.plain_bundles += 1;
-        } else {
-            trial.coverage.transfers += 1;
-        }
-        trial.coverage.empty_bundles += u64::from(length == 0);
-        trial.coverage.full_bundles += u64::from(length == MIN_OUTPUT);
         Received::Bundle {
             length,
             next,
@@ -497,10 +535,11 @@ impl SenderPair {
         pair
     }
 
+    /// A fresh sender of the trial's draft.
     pub fn start(trial: &mut Trial, frame_size: usize, first_number: u32) -> SenderPair {
         let image = trial.random.array();
         let mut pair = SenderPair::new(trial, &image);
-        let number = pair.restart(trial, frame_size as u64, first_number);
+        let number = pair.restart(trial, trial.draft, frame_size as u64, first_number);
         trial.check(number == 0, "start is refused");
         pair.frame = trial.random.octets(frame_size);
         pair.exported_frame = Lent::new(&pair.frame);
@@ -508,21 +547,20 @@ impl SenderPair {
     }
 
     /// The sender's start on the images as they are.
-    pub fn restart(&mut self, trial: &mut Trial, frame_size: u64, first_number: u32) -> u32 {
+    pub fn restart(&mut self, trial: &mut Trial, draft: Draft, size: u64, first: u32) -> u32 {
         trial.calls += 1;
         trial.coverage.starts += 1;
-        if let Some(edge) = FRAME_SIZES.iter().position(|&edge| edge == frame_size) {
-            trial.coverage.frame_sizes[edge] += 1;
-        }
+        trial.coverage.of_mut(draft).started(size);
         let before = self.image;
-        let returned = interface::sender_start(&mut self.image, frame_size, first_number);
-        let exported = raw::sender_start(self.exported_image.array(), frame_size, first_number);
-        let number = trial.same_returned(returned, exported);
+        let returned = Model::sender_start(draft, &mut self.image, size, first);
+        let exported = Exported::sender_start(draft, self.exported_image.array(), size, first);
+        let number = trial.same_returned(Some(draft), returned, exported);
         self.same_image(trial);
         if number != 0 {
             trial.same(&self.image, &before, "state of a refused start");
             return number;
         }
+        trial.check(self.draft() == Some(draft), "the draft of a fresh sender");
         self.check(trial);
         trial.check(self.sound, "a fresh sender is not sound");
         0
@@ -533,10 +571,23 @@ impl SenderPair {
         trial.calls += 1;
         let returned = interface::sender_check(&self.image);
         let exported = raw::sender_check(self.exported_image.array());
-        self.sound = trial.same_returned(returned, exported) == 0;
+        self.sound = trial.same_returned(self.draft(), returned, exported) == 0;
         trial.check(returned <= 1, "another refusal than 1");
-        trial.coverage.checked_senders[usize::from(!self.sound)] += 1;
+        trial.coverage.checks += 1;
+        if let Some(draft) = self.draft() {
+            let cases = trial.coverage.of_mut(draft);
+            cases.checked_senders[usize::from(!self.sound)] += 1;
+        }
         self.same_image(trial);
+    }
+
+    /// The draft that the image says.
+    pub fn draft(&self) -> Option<Draft> {
+        Draft::of_octet(self.image[SENDER_DRAFT])
+    }
+
+    pub fn is_sound(&self) -> bool {
+        self.sound
     }
 
     #[track_caller]
@@ -547,10 +598,6 @@ impl SenderPair {
 
     pub fn frame(&self) -> &[u8] {
         &self.frame
-    }
-
-    pub fn frame_size(&self) -> usize {
-        usize::from(u16::from_be_bytes([self.image[0], self.image[1]]))
     }
 
     pub fn fill(&self) -> usize {
@@ -579,19 +626,16 @@ impl SenderPair {
         self.send_into(trial, call, &mut frame, &mut lent)
     }
 
-    fn send_into(
+    /// The call on both sides, with what was returned and left in the result.
+    fn call(
         &mut self,
-        trial: &mut Trial,
+        trial: &Trial,
         call: Send,
         frame: &mut [u8],
         lent: &mut Lent,
-    ) -> Sent {
-        let lent_result = trial.begin_call();
-        trial.coverage.sending_calls += 1;
-        let image_before = self.image;
-        let frame_before = frame.to_vec();
-        let mut result = lent_result;
-        let mut exported_result = lent_result;
+        lent_result: [u64; 4],
+    ) -> [(u32, [u64; 4]); 2] {
+        let (mut result, mut exported_result) = (lent_result, lent_result);
         let image = &mut self.image;
         let exported_image = self.exported_image.array();
         let (returned, exported) = match call {
@@ -616,8 +660,26 @@ impl SenderPair {
                 raw::flush(exported_image, lent.lend(), &mut exported_result),
             ),
         };
-        let number = trial.same_answer((returned, result), (exported, exported_result));
+        [(returned, result), (exported, exported_result)]
+    }
+
+    fn send_into(
+        &mut self,
+        trial: &mut Trial,
+        call: Send,
+        frame: &mut [u8],
+        lent: &mut Lent,
+    ) -> Sent {
+        let lent_result = trial.begin_call();
+        trial.coverage.sending_calls += 1;
+        let image_before = self.image;
+        let frame_before = frame.to_vec();
+        let draft = self.draft();
+        let [model, exported] = self.call(trial, call, frame, lent, lent_result);
+        let number = trial.same_answer(draft, model, exported);
+        let result = model.1;
         self.same_image(trial);
+        trial.check(self.draft() == draft, "another draft");
         trial.same(frame, lent.get(), "frame");
         trial.check(lent.guards_stay(), "written past what was lent");
         trial.check((number == 1) != self.sound, "refusal 1 against the check");
@@ -631,12 +693,17 @@ impl SenderPair {
         trial.check(result[0] <= 3, "no such answer");
         self.check(trial);
         trial.check(self.sound, "the state left is not sound");
-        trial.coverage.sent[result[0] as usize] += 1;
-        match result[0] {
+        let sent = match result[0] {
             0 => Sent::Placed,
             1 => Sent::PlacedAndReady,
             2 => Sent::Ready,
             _ => Sent::Nothing,
+        };
+        let [before, after] = [&image_before, &self.image].map(State::decode);
+        if let (Some(before), Some(after)) = (before, after) {
+            let cases = trial.coverage.of_mut(before.draft);
+            cases.sent(call, before, after, sent);
         }
+        sent
     }
 }

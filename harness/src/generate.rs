@@ -2,16 +2,20 @@
 
 use crate::coverage::EDGES;
 use crate::model::receiver::{distance, Distance};
-use crate::model::wire;
+use crate::model::{wire, Draft, Layout00, Layout02};
 use crate::random::Random;
 use btpu::raw::{RECEIVER_IMAGE, SENDER_IMAGE};
 
 mod recordings;
 
 pub use recordings::{
-    damage_recording, full_frames, joined, message_count, recorded, recorded_frames, recording,
+    damage_recording, full_frames, joined, recorded, recorded_frames, recording, sent_frames,
     small_frames, unrecordable, UNRECORDABLE,
 };
+
+/// Where images say their draft.
+pub const RECEIVER_DRAFT: usize = 2;
+pub const SENDER_DRAFT: usize = 9;
 
 pub const ROWS: usize = 16;
 pub const ROW_IMAGE: usize = 196;
@@ -21,11 +25,9 @@ const MAX_FRAME: usize = 2048;
 
 pub const PADDING: u8 = 1;
 pub const BUNDLE: u8 = 2;
-pub const SEGMENT: u8 = 3;
-pub const END: u8 = 4;
 pub const CANCEL: u8 = 5;
 
-/// A headed message; `hints` is a chain, or empty.
+/// A headed message; `hints` is a chain, or empty, as always in draft 00.
 pub fn message(kind: u8, hints: &[u8], content: &[u8]) -> Vec<u8> {
     let length = hints.len() + content.len();
     let flags = if hints.is_empty() { 0 } else { 0x80 };
@@ -40,21 +42,44 @@ pub fn message(kind: u8, hints: &[u8], content: &[u8]) -> Vec<u8> {
     octets
 }
 
-pub fn piece(number: u32, index: u32, end: bool, hints: &[u8], data: &[u8]) -> Vec<u8> {
-    let mut content = number.to_be_bytes().to_vec();
-    content.extend(index.to_be_bytes());
-    content.extend(data);
-    message(if end { END } else { SEGMENT }, hints, &content)
+/// A piece of a transfer: its index, and whether it is an end, for which a start stands in draft 00.
+#[derive(Clone, Copy, Debug, PartialEq, Eq)]
+pub struct Piece {
+    pub number: u32,
+    pub index: u32,
+    pub end: bool,
+}
+
+impl Piece {
+    /// The piece that is sent at a place, from 0, among so many of its transfer.
+    pub fn sent(draft: Draft, number: u32, place: usize, count: usize) -> Piece {
+        let (index, end) = match draft {
+            Draft::D00 => (count - 1 - place, place == 0),
+            Draft::D02 => (place, place + 1 == count),
+        };
+        Piece {
+            number,
+            index: index as u32,
+            end,
+        }
+    }
+
+    pub fn message(self, draft: Draft, hints: &[u8], data: &[u8]) -> Vec<u8> {
+        let mut content = self.number.to_be_bytes().to_vec();
+        content.extend(self.index.to_be_bytes());
+        content.extend(data);
+        message(draft.piece_type(self.end), hints, &content)
+    }
 }
 
 pub fn cancel(number: u32, hints: &[u8]) -> Vec<u8> {
     message(CANCEL, hints, &number.to_be_bytes())
 }
 
-/// A chain of hints of at most `budget` octets, empty more often than not.
-pub fn hints(random: &mut Random, budget: usize) -> Vec<u8> {
+/// A chain of hints of at most `budget` octets, empty more often than not, and in draft 00 always.
+pub fn hints(random: &mut Random, draft: Draft, budget: usize) -> Vec<u8> {
     let mut chain = Vec::new();
-    if budget < 2 || !random.once_in(4) {
+    if draft == Draft::D00 || budget < 2 || !random.once_in(4) {
         return chain;
     }
     loop {
@@ -76,7 +101,7 @@ pub fn hints(random: &mut Random, budget: usize) -> Vec<u8> {
 }
 
 /// Padding or a message of a type that is passed over, of at most `budget` octets.
-pub fn passed(random: &mut Random, budget: usize) -> Vec<u8> {
+pub fn passed(random: &mut Random, draft: Draft, budget: usize) -> Vec<u8> {
     if budget < 4 || random.once_in(3) {
         return vec![0; random.within(1, 6).min(budget)];
     }
@@ -89,7 +114,7 @@ pub fn passed(random: &mut Random, budget: usize) -> Vec<u8> {
     let content = random.octets(length);
     let mut octets = message(kind, &[], &content);
     // H has no meaning in these types.
-    if random.once_in(4) {
+    if draft == Draft::D02 && random.once_in(4) {
         octets[1] |= 0x80;
     }
     octets
@@ -139,18 +164,83 @@ pub fn with_reserved_bits(random: &mut Random, frame: &[u8]) -> (Vec<u8>, Vec<Ch
     (octets, changes)
 }
 
-/// Good places of a well-formed frame.
-pub fn good_places(frame: &[u8]) -> Vec<u64> {
+/// Good places of a well-formed frame, or those up to the first bad message.
+pub fn good_places(draft: Draft, frame: &[u8]) -> Vec<u64> {
     let mut places = vec![0];
     let mut at = 0;
     while at < frame.len() {
-        match wire::read(frame, at) {
-            Ok((_, next)) => at = next,
-            Err(_) => break,
-        }
+        let Some(next) = next_place(draft, frame, at) else {
+            break;
+        };
+        at = next;
         places.push(at as u64);
     }
     places
+}
+
+/// The number of messages of a frame, or nothing if it is malformed.
+pub fn message_count(draft: Draft, frame: &[u8]) -> Option<u64> {
+    let mut count = 0;
+    let mut at = 0;
+    while at < frame.len() {
+        at = next_place(draft, frame, at)?;
+        count += 1;
+    }
+    Some(count)
+}
+
+/// The place after the message that starts there, or nothing if it is bad.
+fn next_place(draft: Draft, frame: &[u8], at: usize) -> Option<usize> {
+    let read = match draft {
+        Draft::D00 => wire::read::<Layout00>(frame, at),
+        Draft::D02 => wire::read::<Layout02>(frame, at),
+    };
+    Some(read.ok()?.1)
+}
+
+/// Where the headed messages of a frame start, up to the first bad message.
+pub fn headers(draft: Draft, frame: &[u8]) -> Vec<usize> {
+    let places = good_places(draft, frame).into_iter();
+    let places = places.map(|place| place as usize);
+    places
+        .filter(|&place| frame.get(place).is_some_and(|&kind| kind != 0))
+        .collect()
+}
+
+/// What a sender's frames hold of one transfer.
+#[derive(Clone, Debug, PartialEq, Eq)]
+pub struct SentTransfer {
+    pub number: u32,
+    /// Type and index of each piece, one at least, in the order in which they were sent.
+    pub pieces: Vec<(u8, u32)>,
+    pub cancelled: bool,
+}
+
+/// The transfers of a sender's frames.
+pub fn transfers(draft: Draft, frames: &[Vec<u8>]) -> Vec<SentTransfer> {
+    let mut sent: Vec<SentTransfer> = Vec::new();
+    for frame in frames {
+        for start in headers(draft, frame) {
+            let word = |at: usize| {
+                let octets = frame[start + at..][..4].try_into();
+                u32::from_be_bytes(octets.expect("four octets"))
+            };
+            let last = sent.last_mut();
+            match (frame[start], last) {
+                (CANCEL, Some(last)) if last.number == word(4) => last.cancelled = true,
+                (kind @ (3 | 4), Some(last)) if last.number == word(4) => {
+                    last.pieces.push((kind, word(8)));
+                }
+                (kind @ (3 | 4), _) => sent.push(SentTransfer {
+                    number: word(4),
+                    pieces: vec![(kind, word(8))],
+                    cancelled: false,
+                }),
+                _ => {}
+            }
+        }
+    }
+    sent
 }
 
 /// A number to start from, often just before one of the wraps.
@@ -203,7 +293,7 @@ pub fn disorder<T>(random: &mut Random, list: Vec<T>, reach: usize) -> Vec<T> {
 }
 
 /// Messages of an honest record: several transfers with loss, repeats, disorder and cancels.
-pub fn honest_messages(random: &mut Random, transfers: usize) -> Vec<Vec<u8>> {
+pub fn honest_messages(random: &mut Random, draft: Draft, transfers: usize) -> Vec<Vec<u8>> {
     let mut messages = Vec::new();
     let mut number = first_number(random);
     let most = random.pick(&[3, 8, 20, 64]);
@@ -212,28 +302,28 @@ pub fn honest_messages(random: &mut Random, transfers: usize) -> Vec<Vec<u8>> {
         let length = bundle_length(random);
         let bundle = random.octets(length);
         let pieces = cut(random, &bundle, most);
-        let last = pieces.len() - 1;
+        let count = pieces.len();
         let mut own = Vec::new();
-        for (index, data) in pieces.into_iter().enumerate() {
-            let hints = hints(random, 30);
-            let octets = piece(number, index as u32, index == last, &hints, data);
+        for (place, data) in pieces.into_iter().enumerate() {
+            let hints = hints(random, draft, 30);
+            let octets = Piece::sent(draft, number, place, count).message(draft, &hints, data);
             if random.once_in(10) {
                 own.push(octets.clone());
             }
             own.push(octets);
         }
         if random.once_in(6) {
-            let hints = hints(random, 20);
+            let hints = hints(random, draft, 20);
             own.insert(random.below(own.len() + 1), cancel(number, &hints));
         }
         messages.extend(own);
         if random.once_in(3) {
-            let hints = hints(random, 30);
+            let hints = hints(random, draft, 30);
             let length = random.below(60);
             messages.push(message(BUNDLE, &hints, &random.octets(length)));
         }
         if random.once_in(3) {
-            messages.push(passed(random, 40));
+            messages.push(passed(random, draft, 40));
         }
         number = number.wrapping_add(1);
     }
@@ -284,31 +374,33 @@ fn data_length(random: &mut Random) -> usize {
 }
 
 /// One well-formed message with a hostile number and index.
-pub fn hostile_message(random: &mut Random, greatest: &mut Option<u32>) -> Vec<u8> {
-    let chain = hints(random, 24);
+pub fn hostile_message(random: &mut Random, draft: Draft, greatest: &mut Option<u32>) -> Vec<u8> {
+    let chain = hints(random, draft, 24);
     match random.below(20) {
-        0 => passed(random, 40),
+        0 => passed(random, draft, 40),
         1 => {
             let length = random.below(40);
             message(BUNDLE, &chain, &random.octets(length))
         }
         2 => cancel(hostile_number(random, greatest), &chain),
         _ => {
-            let number = hostile_number(random, greatest);
-            let index = hostile_index(random);
+            let piece = Piece {
+                number: hostile_number(random, greatest),
+                index: hostile_index(random),
+                end: random.once_in(4),
+            };
             let length = data_length(random);
-            let end = random.once_in(4);
-            piece(number, index, end, &chain, &random.octets(length))
+            piece.message(draft, &chain, &random.octets(length))
         }
     }
 }
 
 /// A well-formed frame of hostile messages.
-pub fn hostile_frame(random: &mut Random, mut greatest: Option<u32>) -> Vec<u8> {
+pub fn hostile_frame(random: &mut Random, draft: Draft, mut greatest: Option<u32>) -> Vec<u8> {
     let size = random.pick(&[60, 300, MAX_FRAME]);
     let mut frame = Vec::new();
     loop {
-        let message = hostile_message(random, &mut greatest);
+        let message = hostile_message(random, draft, &mut greatest);
         if frame.len() + message.len() > size {
             break;
         }
@@ -318,25 +410,25 @@ pub fn hostile_frame(random: &mut Random, mut greatest: Option<u32>) -> Vec<u8> 
         frame.push(0);
     }
     if random.once_in(20) {
-        fill_up(random, &mut frame);
+        fill_up(random, draft, &mut frame);
     }
-    if random.once_in(4) {
+    if draft == Draft::D02 && random.once_in(4) {
         return with_reserved_bits(random, &frame).0;
     }
     frame
 }
 
 /// Fills a frame up to its greatest length with messages that have no effect.
-pub fn fill_up(random: &mut Random, frame: &mut Vec<u8>) {
+pub fn fill_up(random: &mut Random, draft: Draft, frame: &mut Vec<u8>) {
     while frame.len() < MAX_FRAME {
         let rest = MAX_FRAME - frame.len();
-        frame.extend(passed(random, rest));
+        frame.extend(passed(random, draft, rest));
     }
 }
 
 /// Damages a frame: bits, cuts, length fields, hint chains, octets added.
-pub fn damage_frame(random: &mut Random, frame: &mut Vec<u8>) {
-    let places = good_places(frame);
+pub fn damage_frame(random: &mut Random, draft: Draft, frame: &mut Vec<u8>) {
+    let places = good_places(draft, frame);
     let start = places[random.below(places.len())] as usize;
     match random.below(7) {
         0 | 1 => {
@@ -360,7 +452,8 @@ pub fn damage_frame(random: &mut Random, frame: &mut Vec<u8>) {
             }
         }
         4 => {
-            // H set where no chain stands, so that content is read as hints.
+            // H set where no chain stands, so that content is read as hints; in draft 00 the length's
+            // highest bit.
             if start + 1 < frame.len() && frame[start] != 0 {
                 frame[start + 1] |= 0x80;
             }
@@ -478,6 +571,42 @@ fn row_mut(image: &mut [u8], row: usize) -> &mut [u8] {
     &mut image[8 + ROW_IMAGE * row..][..ROW_IMAGE]
 }
 
+/// A piece for an Open row, with its data: one that just fits, completes, repeats, contradicts or
+/// overflows.
+pub fn piece_for(random: &mut Random, open: &OpenRow, number: u32) -> (Piece, Vec<u8>) {
+    let held: Vec<u8> = open.pieces.iter().map(|piece| piece.0).collect();
+    let missing: Vec<u8> = (0..64).filter(|index| !held.contains(index)).collect();
+    let room = CELL - open.octets();
+    let above = held.iter().max().map_or(0, |&most| most + 1);
+    // An end that is too long where no other step comes first.
+    let too_long = open.last.is_none() && above < 64 && room < 2036 && random.once_in(3);
+    let length = match random.below(5) {
+        _ if too_long => room + 1,
+        0 => room,
+        1 => room + 1,
+        2 => room.saturating_sub(1),
+        _ => random.below(40),
+    }
+    .min(2036);
+    let index = match random.below(4) {
+        _ if too_long => above,
+        0 => random.pick(&held),
+        1 => match open.last {
+            Some(last) => random.pick(&[last, last + 1, last.saturating_sub(1)]),
+            None => above,
+        },
+        _ if missing.is_empty() => 64,
+        // The lowest missing one completes a row that lacks no other.
+        _ => missing[random.below(2).min(missing.len() - 1)],
+    };
+    let piece = Piece {
+        number,
+        index: index.into(),
+        end: too_long || random.once_in(3),
+    };
+    (piece, random.octets(length))
+}
+
 fn piece_count(random: &mut Random) -> usize {
     match random.below(4) {
         0 => 1,
@@ -487,9 +616,16 @@ fn piece_count(random: &mut Random) -> usize {
     }
 }
 
-/// The image of a sound receiver with a greatest number and rows of every kind.
-pub fn sound_receiver(random: &mut Random) -> [u8; RECEIVER_IMAGE] {
+/// The image of a fresh receiver.
+pub fn fresh_receiver(draft: Draft) -> [u8; RECEIVER_IMAGE] {
     let mut image = [0; RECEIVER_IMAGE];
+    image[RECEIVER_DRAFT] = draft.octet();
+    image
+}
+
+/// The image of a sound receiver with a greatest number and rows of every kind.
+pub fn sound_receiver(random: &mut Random, draft: Draft) -> [u8; RECEIVER_IMAGE] {
+    let mut image = fresh_receiver(draft);
     image[0] = 1;
     let greatest = first_number(random);
     image[4..8].copy_from_slice(&greatest.to_be_bytes());
@@ -511,11 +647,14 @@ pub fn sound_receiver(random: &mut Random) -> [u8; RECEIVER_IMAGE] {
     image
 }
 
+/// The damage to an image that a draft would undo.
+pub const NO_DRAFT: &str = "draft's octet above 1";
+
 /// The ways in which a receiver's image is unsound or no state.
-pub const RECEIVER_DAMAGE: [&str; 24] = [
+pub const RECEIVER_DAMAGE: [&str; 25] = [
     "erased from an octet on",
     "G's flag above 1",
-    "octets 1 to 3 not zero",
+    "octet 1 or 3 not zero",
     "G absent and not zero",
     "G absent, a row not Free",
     "phase above 4",
@@ -537,11 +676,12 @@ pub const RECEIVER_DAMAGE: [&str; 24] = [
     "final in a row not Open",
     "index in a row not Open",
     "length in a row not Open",
+    NO_DRAFT,
 ];
 
 /// An image of a receiver that must be refused, damaged in the way of that place in the list.
-pub fn unsound_receiver(random: &mut Random, damage: usize) -> [u8; RECEIVER_IMAGE] {
-    let mut image = sound_receiver(random);
+pub fn unsound_receiver(random: &mut Random, draft: Draft, damage: usize) -> [u8; RECEIVER_IMAGE] {
+    let mut image = sound_receiver(random, draft);
     let place = random.below(ROWS);
     let wrong_flag = random.within(2, 255) as u8;
     let not_zero = random.within(1, 255) as u8;
@@ -558,22 +698,26 @@ pub fn unsound_receiver(random: &mut Random, damage: usize) -> [u8; RECEIVER_IMA
             return image;
         }
         2 => {
-            image[random.within(1, 3)] = not_zero;
+            image[random.pick(&[1, 3])] = not_zero;
             return image;
         }
         3 => {
-            image.fill(0);
+            image = fresh_receiver(draft);
             image[random.within(4, 7)] = not_zero;
             return image;
         }
         4 => {
             let kept = row(&image, place).to_vec();
-            image.fill(0);
+            image = fresh_receiver(draft);
             let octets = row_mut(&mut image, place);
             octets.copy_from_slice(&kept);
             if octets[0] == 0 {
                 octets[0] = random.pick(&[2, 3, 4]);
             }
+            return image;
+        }
+        24 => {
+            image[RECEIVER_DRAFT] = random.pick(&[2, 255, wrong_flag]);
             return image;
         }
         _ => {}
@@ -744,7 +888,8 @@ pub struct SenderEntries {
     pub fill: u16,
     pub next_number: u32,
     pub begun: u8,
-    pub zeros: [u8; 3],
+    pub draft: u8,
+    pub zeros: [u8; 2],
     pub number: u32,
     pub length: u16,
     pub placed: u16,
@@ -758,7 +903,8 @@ impl SenderEntries {
         image[2..4].copy_from_slice(&self.fill.to_be_bytes());
         image[4..8].copy_from_slice(&self.next_number.to_be_bytes());
         image[8] = self.begun;
-        image[9..12].copy_from_slice(&self.zeros);
+        image[SENDER_DRAFT] = self.draft;
+        image[10..12].copy_from_slice(&self.zeros);
         image[12..16].copy_from_slice(&self.number.to_be_bytes());
         image[16..18].copy_from_slice(&self.length.to_be_bytes());
         image[18..20].copy_from_slice(&self.placed.to_be_bytes());
@@ -766,7 +912,7 @@ impl SenderEntries {
         image
     }
 
-    pub fn idle(random: &mut Random) -> SenderEntries {
+    pub fn idle(random: &mut Random, draft: Draft) -> SenderEntries {
         let size = frame_size(random);
         let fill = match random.below(4) {
             0 => 0,
@@ -777,22 +923,29 @@ impl SenderEntries {
             frame_size: size as u16,
             fill: fill as u16,
             next_number: first_number(random),
+            draft: draft.octet(),
             ..SenderEntries::default()
         }
     }
 
-    pub fn begun(random: &mut Random) -> SenderEntries {
+    pub fn begun(random: &mut Random, draft: Draft) -> SenderEntries {
         let size = frame_size(random);
         let length = random.edge_or_within(size - 3, CELL);
-        let placed = random.edge_or_within(1, length - 1);
-        let greatest = Self::greatest_index(size, length - placed);
-        let next_index = random.edge_or_within(1, greatest);
+        let full = random.within(1, (length - 1) / (size - 12));
+        let placed = match random.below(3) {
+            // What remains fills frames.
+            0 => length - full * (size - 12),
+            _ => random.edge_or_within(1, length - 1),
+        };
+        let (least, greatest) = Self::indexes(draft, size, length - placed);
+        let next_index = random.edge_or_within(least, greatest);
         SenderEntries {
             frame_size: size as u16,
             fill: 0,
             next_number: first_number(random),
             begun: 1,
-            zeros: [0; 3],
+            draft: draft.octet(),
+            zeros: [0; 2],
             number: first_number(random),
             length: length as u16,
             placed: placed as u16,
@@ -800,19 +953,43 @@ impl SenderEntries {
         }
     }
 
-    fn greatest_index(size: usize, remaining: usize) -> usize {
-        64 - remaining.div_ceil(size - 12)
+    /// Idle, or with a transfer begun.
+    pub fn any(random: &mut Random, draft: Draft) -> SenderEntries {
+        match random.once_in(3) {
+            true => SenderEntries::idle(random, draft),
+            false => SenderEntries::begun(random, draft),
+        }
+    }
+
+    /// With another length and other octets placed, and an index that may be next.
+    fn with_placed(self, draft: Draft, length: usize, placed: usize) -> SenderEntries {
+        let size = usize::from(self.frame_size);
+        SenderEntries {
+            length: length as u16,
+            placed: placed as u16,
+            next_index: Self::indexes(draft, size, length - placed).0 as u32,
+            ..self
+        }
+    }
+
+    /// The least and the greatest index that may be next where so many octets remain.
+    fn indexes(draft: Draft, size: usize, remaining: usize) -> (usize, usize) {
+        let pieces = remaining.div_ceil(size - 12);
+        match draft {
+            Draft::D00 => (pieces - 1, pieces - 1),
+            Draft::D02 => (1, 64 - pieces),
+        }
     }
 }
 
 /// The ways in which a sender's image is unsound or no state.
-pub const SENDER_DAMAGE: [&str; 17] = [
+pub const SENDER_DAMAGE: [&str; 18] = [
     "erased from an octet on",
     "frame size below 128",
     "frame size above 2,048",
     "fill not below the frame size",
     "flag above 1",
-    "octets 9 to 11 not zero",
+    "octet 10 or 11 not zero",
     "number with nothing begun",
     "length with nothing begun",
     "placed with nothing begun",
@@ -822,14 +999,15 @@ pub const SENDER_DAMAGE: [&str; 17] = [
     "length above 4,096",
     "nothing placed",
     "all placed",
-    "index 0",
+    "index too small",
     "index too great",
+    NO_DRAFT,
 ];
 
 /// An image of a sender that must be refused, damaged in the way of that place in the list.
-pub fn unsound_sender(random: &mut Random, damage: usize) -> [u8; SENDER_IMAGE] {
-    let mut idle = SenderEntries::idle(random);
-    let mut begun = SenderEntries::begun(random);
+pub fn unsound_sender(random: &mut Random, draft: Draft, damage: usize) -> [u8; SENDER_IMAGE] {
+    let mut idle = SenderEntries::idle(random, draft);
+    let mut begun = SenderEntries::begun(random, draft);
     let either = if random.once_in(2) { idle } else { begun };
     let bit = 1u32 << random.below(32);
     let short_bit = 1u16 << random.below(16);
@@ -860,7 +1038,7 @@ pub fn unsound_sender(random: &mut Random, damage: usize) -> [u8; SENDER_IMAGE] 
         .image(),
         5 => {
             let mut entries = either;
-            entries.zeros[random.below(3)] = random.within(1, 255) as u8;
+            entries.zeros[random.below(2)] = random.within(1, 255) as u8;
             entries.image()
         }
         6 => SenderEntries {
@@ -889,40 +1067,43 @@ pub fn unsound_sender(random: &mut Random, damage: usize) -> [u8; SENDER_IMAGE] 
         }
         11 => {
             let length = random.edge_or_within(2, size - 4);
-            SenderEntries {
-                length: length as u16,
-                placed: random.within(1, length - 1) as u16,
-                next_index: 1,
-                ..begun
-            }
-            .image()
+            let placed = random.within(1, length - 1);
+            begun.with_placed(draft, length, placed).image()
         }
         12 => {
-            begun.length = random.pick(&[4097, 4098, 8192, 65_535]);
-            begun.placed = begun.length - 1;
-            begun.next_index = 1;
-            begun.image()
+            let length = random.pick(&[4097, 4098, 8192, 65_535]);
+            begun.with_placed(draft, length, length - 1).image()
         }
-        13 => {
-            begun.placed = 0;
-            begun.next_index = 1;
-            begun.image()
-        }
+        13 => begun.with_placed(draft, begun.length.into(), 0).image(),
         14 => {
             begun.placed = random.pick(&[begun.length, begun.length + 1, 65_535]);
-            begun.next_index = 1;
+            begun.next_index = random.pick(&[0, 1, u32::MAX]);
             begun.image()
         }
         15 => {
-            begun.next_index = 0;
+            // More than a piece remains, so that the index is not 0 in draft 00 either.
+            let length = usize::from(begun.length);
+            let placed = random.edge_or_within(1, length + 11 - size);
+            let (least, _) = SenderEntries::indexes(draft, size, length - placed);
+            let any = random.below(least);
+            begun.placed = placed as u16;
+            begun.next_index = random.pick(&[0, least - 1, any]) as u32;
             begun.image()
         }
-        _ => {
+        16 => {
             let remaining = usize::from(begun.length - begun.placed);
-            let least = SenderEntries::greatest_index(size, remaining) as u32 + 1;
+            let least = SenderEntries::indexes(draft, size, remaining).1 as u32 + 1;
             begun.next_index = random.pick(&[least, least + 1, 64, 65, 256, 1 << 31, u32::MAX]);
             begun.next_index = begun.next_index.max(least);
             begun.image()
+        }
+        _ => {
+            let any = random.within(2, 255) as u8;
+            SenderEntries {
+                draft: random.pick(&[2, 255, any]),
+                ..either
+            }
+            .image()
         }
     }
 }

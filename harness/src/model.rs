@@ -1,9 +1,10 @@
-//! Receiver and sender of document 01, as the requests of document 02 leave it, and recordings, in plain
-//! Rust, written from these papers alone.
+//! Receiver and sender of document 01, as the requests of document 02 leave it, for draft 02 and for draft
+//! 00, and recordings, in plain Rust, written from these papers and document 000 alone.
 //!
 //! The exported interface is compared with this model, and its speed is measured against it.
 
 pub mod burst;
+mod draft;
 pub mod image;
 pub mod interface;
 pub mod playback;
@@ -12,7 +13,9 @@ pub mod recording;
 pub mod sender;
 pub mod wire;
 
-/// The cases of the papers' refusals; 5 is never given.
+pub use draft::{Draft, Layout, Layout00, Layout02};
+
+/// The cases of the papers' refusals; 5 is never given, and 7 never in draft 00.
 #[derive(Clone, Copy, Debug, PartialEq, Eq)]
 pub enum Refusal {
     UnsoundState,

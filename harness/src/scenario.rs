@@ -2,8 +2,12 @@
 
 use crate::compare::{Lending, Received, ReceiverPair, Send, SenderPair, Sent, Trial};
 use crate::coverage::{Coverage, FRAME_LENGTHS};
-use crate::generate::{self, OpenRow, SenderEntries, BUNDLE, RECEIVER_DAMAGE, ROWS, SENDER_DAMAGE};
+use crate::generate::{
+    self, OpenRow, Piece, SenderEntries, BUNDLE, NO_DRAFT, RECEIVER_DAMAGE, RECEIVER_DRAFT, ROWS,
+    SENDER_DAMAGE, SENDER_DRAFT,
+};
 use crate::model::receiver::CELL;
+use crate::model::Draft;
 use crate::random::Random;
 use btpu::raw::{POOL, RECEIVER_IMAGE};
 
@@ -12,11 +16,13 @@ pub mod recordings;
 
 type Scenario = (&'static str, fn(&mut Trial));
 
-pub const SCENARIOS: [Scenario; 23] = [
+pub const SCENARIOS: [Scenario; 25] = [
     ("honest", honest),
     ("sent", sent),
     ("hostile", hostile),
+    ("other draft", other_draft),
     ("malformed", malformed),
+    ("long lengths", long_lengths),
     ("octets", octets),
     ("places", places),
     ("hints", hints),
@@ -55,12 +61,12 @@ pub fn run_all(seed: u64, coverage: &mut Coverage, mut more: impl FnMut(&Coverag
     }
 }
 
-/// A state to begin with: fresh, or any sound one.
+/// A state of the trial's draft to begin with: fresh, or any sound one.
 fn some_receiver(trial: &mut Trial) -> ReceiverPair {
     if trial.random.once_in(2) {
         return ReceiverPair::start(trial);
     }
-    let image = generate::sound_receiver(&mut trial.random);
+    let image = generate::sound_receiver(&mut trial.random, trial.draft);
     ReceiverPair::new(trial, &image)
 }
 
@@ -86,22 +92,22 @@ fn refused_between(trial: &mut Trial, receiver: &mut ReceiverPair, frame: &[u8])
     trial.check(received == Received::Refused(number), "refusal expected");
 }
 
-/// Sets reserved bits in the headers of frames, as another head may.
+/// At times sets reserved bits in the headers of frames, as another head may; draft 00 has none.
 fn set_reserved_bits(trial: &mut Trial, frames: &mut [Vec<u8>]) {
-    for frame in frames {
-        *frame = generate::with_reserved_bits(&mut trial.random, frame).0;
+    if trial.draft == Draft::D02 && trial.random.once_in(4) {
+        for frame in frames {
+            *frame = generate::with_reserved_bits(&mut trial.random, frame).0;
+        }
     }
 }
 
 fn honest(trial: &mut Trial) {
     let mut receiver = ReceiverPair::start(trial);
     let transfers = trial.random.within(1, 24);
-    let messages = generate::honest_messages(&mut trial.random, transfers);
+    let messages = generate::honest_messages(&mut trial.random, trial.draft, transfers);
     let size = trial.random.pick(&[100, 400, 1000, 2048]);
     let mut frames = generate::pack(&mut trial.random, &messages, size);
-    if trial.random.once_in(4) {
-        set_reserved_bits(trial, &mut frames);
-    }
+    set_reserved_bits(trial, &mut frames);
     for (place, frame) in frames.iter().enumerate() {
         receiver.take(trial, frame, &mut |_| {});
         if trial.random.once_in(8) {
@@ -156,16 +162,16 @@ fn sent(trial: &mut Trial) {
     if sender.send(trial, Send::Flush) == Sent::Ready {
         frames.push(sender.frame().to_vec());
     }
-    if trial.random.once_in(4) {
-        set_reserved_bits(trial, &mut frames);
-    }
+    check_pieces(trial, &frames);
+    set_reserved_bits(trial, &mut frames);
     if trial.random.once_in(2) {
         let mut handed_out: Vec<Vec<u8>> = Vec::new();
         for frame in &frames {
             receiver.take(trial, frame, &mut |bundle| handed_out.push(bundle.to_vec()));
         }
         trial.check(handed_out == bundles, "other bundles than were placed");
-        trial.coverage.round_trips += bundles.len() as u64;
+        let cases = trial.coverage.of_mut(trial.draft);
+        cases.round_trips += bundles.len() as u64;
     } else {
         let reach = trial.random.below(6);
         let mut frames = generate::disorder(&mut trial.random, frames, reach);
@@ -178,20 +184,111 @@ fn sent(trial: &mut Trial) {
     }
 }
 
+/// Checks the types and indexes of the pieces that a sender has put into frames.
+fn check_pieces(trial: &Trial, frames: &[Vec<u8>]) {
+    for transfer in generate::transfers(trial.draft, frames) {
+        let count = transfer.pieces.len();
+        let total = match trial.draft {
+            Draft::D00 => transfer.pieces[0].1 as usize + 1,
+            Draft::D02 => count + usize::from(transfer.cancelled),
+        };
+        trial.check(
+            if transfer.cancelled {
+                count < total
+            } else {
+                count == total
+            },
+            "the number of pieces sent",
+        );
+        for (place, &(kind, index)) in transfer.pieces.iter().enumerate() {
+            let piece = Piece::sent(trial.draft, transfer.number, place, total);
+            let good = kind == trial.draft.piece_type(piece.end) && index == piece.index;
+            trial.check(good, "a piece sent");
+        }
+    }
+}
+
 fn hostile(trial: &mut Trial) {
     let mut receiver = some_receiver(trial);
     for _ in 0..trial.random.within(1, 12) {
-        let frame = generate::hostile_frame(&mut trial.random, receiver.greatest());
+        let frame = generate::hostile_frame(&mut trial.random, trial.draft, receiver.greatest());
         receiver.take(trial, &frame, &mut |_| {});
+    }
+}
+
+/// A board gets frames of the other draft among its own. Draft 00 refuses those of draft 02 that have
+/// flags, and no others; draft 02 refuses none.
+fn other_draft(trial: &mut Trial) {
+    let mut receiver = some_receiver(trial);
+    let other = trial.draft.other();
+    let mut frames = match trial.random.below(3) {
+        0 => generate::sent_frames(&mut trial.random, other),
+        1 => {
+            let messages = generate::honest_messages(&mut trial.random, other, 4);
+            generate::pack(&mut trial.random, &messages, 300)
+        }
+        _ => Vec::new(),
+    };
+    for _ in 0..trial.random.within(1, 6) {
+        frames.push(generate::hostile_frame(
+            &mut trial.random,
+            other,
+            receiver.greatest(),
+        ));
+    }
+    for frame in &frames {
+        let flagged = generate::headers(other, frame)
+            .iter()
+            .any(|start| frame[start + 1] != 0);
+        let refused = trial.draft == Draft::D00 && flagged;
+        let received = receiver.receive(trial, frame, 0, Lending::default());
+        trial.check(
+            (received == Received::Refused(6)) == refused,
+            "flags of the other draft",
+        );
+        if !refused {
+            receiver.take(trial, frame, &mut |_| {});
+        }
+        let cases = trial.coverage.of_mut(trial.draft);
+        cases.other_frames[usize::from(refused)] += 1;
+        if trial.random.once_in(3) {
+            let own = generate::hostile_frame(&mut trial.random, trial.draft, receiver.greatest());
+            receiver.take(trial, &own, &mut |_| {});
+        }
+    }
+}
+
+/// A length of 65,536 or more runs past every frame. In draft 00 every bit of the second octet makes it
+/// so, in draft 02 the four lowest.
+fn long_lengths(trial: &mut Trial) {
+    let mut receiver = some_receiver(trial);
+    for _ in 0..trial.random.within(2, 8) {
+        let mut frame =
+            generate::hostile_frame(&mut trial.random, trial.draft, receiver.greatest());
+        let headers = generate::headers(trial.draft, &frame);
+        if headers.is_empty() {
+            continue;
+        }
+        let any = trial.random.within(1, 255) as u8;
+        let mut high = trial
+            .random
+            .pick(&[1, 8, 0x0f, 0x10, 0x80, 0xf0, 0xff, any]);
+        if trial.draft == Draft::D02 && high & 0x0f == 0 {
+            high |= 1;
+        }
+        frame[trial.random.pick(&headers) + 1] = high;
+        let received = receiver.receive(trial, &frame, 0, Lending::default());
+        trial.check(received == Received::Refused(6), "a length past the frame");
     }
 }
 
 fn malformed(trial: &mut Trial) {
     let mut receiver = some_receiver(trial);
     for _ in 0..trial.random.within(4, 16) {
-        let mut frame = generate::hostile_frame(&mut trial.random, receiver.greatest());
+        let mut frame =
+            generate::hostile_frame(&mut trial.random, trial.draft, receiver.greatest());
         for _ in 0..trial.random.within(1, 2) {
-            generate::damage_frame(&mut trial.random, &mut frame);
+            generate::damage_frame(&mut trial.random, trial.draft, &mut frame);
         }
         let place = match trial.random.below(4) {
             0 => trial.random.below(frame.len() + 2) as u64,
@@ -219,9 +316,9 @@ fn places(trial: &mut Trial) {
     let mut frame = Vec::new();
     for _ in 0..trial.random.within(1, 4) {
         let message = if trial.random.once_in(2) {
-            generate::passed(&mut trial.random, 20)
+            generate::passed(&mut trial.random, trial.draft, 20)
         } else {
-            generate::hostile_message(&mut trial.random, &mut greatest)
+            generate::hostile_message(&mut trial.random, trial.draft, &mut greatest)
         };
         if frame.len() + message.len() <= 120 {
             frame.extend(message);
@@ -230,7 +327,7 @@ fn places(trial: &mut Trial) {
     if frame.is_empty() {
         frame.push(0);
     }
-    let good = generate::good_places(&frame);
+    let good = generate::good_places(trial.draft, &frame);
     for place in 0..frame.len() as u64 + 3 {
         let received = receiver.receive(trial, &frame, place, Lending::default());
         let refused = received == Received::Refused(9);
@@ -251,6 +348,7 @@ fn places(trial: &mut Trial) {
 
 /// Chains of hints of every length, whole and cut, before content that just suffices or does not.
 fn hints(trial: &mut Trial) {
+    trial.draft = Draft::D02;
     let mut receiver = ReceiverPair::start(trial);
     for _ in 0..trial.random.within(4, 12) {
         let count = trial.random.pick(&[1, 2, 3, 20, 300, 1000, 1022]);
@@ -308,17 +406,20 @@ fn dense(trial: &mut Trial) {
             frame.push(0);
         }
         if style == 2 && trial.random.once_in(8) {
-            let number = receiver.greatest().unwrap_or(0);
-            let index = trial.random.below(64) as u32;
-            let end = trial.random.once_in(10);
-            let piece = generate::piece(number, index, end, &[], &[]);
-            if frame.len() + piece.len() <= 2048 {
-                frame.extend(piece);
+            let piece = Piece {
+                number: receiver.greatest().unwrap_or(0),
+                index: trial.random.below(64) as u32,
+                end: trial.random.once_in(10),
+            };
+            let message = piece.message(trial.draft, &[], &[]);
+            if frame.len() + message.len() <= 2048 {
+                frame.extend(message);
             }
         }
     }
-    let messages = generate::good_places(&frame).len() - 1;
-    trial.coverage.dense_frames += u64::from(messages >= 500);
+    let messages = generate::message_count(trial.draft, &frame);
+    let cases = trial.coverage.of_mut(trial.draft);
+    cases.dense_frames += u64::from(messages.is_some_and(|count| count >= 500));
     receiver.take(trial, &frame, &mut |_| {});
 }
 
@@ -354,9 +455,9 @@ fn joins(trial: &mut Trial) {
             _ => trial.random.shuffle(&mut order),
         }
         let mut handed_out: Vec<Vec<u8>> = Vec::new();
-        for index in order {
-            let end = index + 1 == pieces.len();
-            let frame = generate::piece(number, index as u32, end, &[], pieces[index]);
+        for place in order {
+            let piece = Piece::sent(trial.draft, number, place, pieces.len());
+            let frame = piece.message(trial.draft, &[], pieces[place]);
             receiver.take(trial, &frame, &mut |bundle| {
                 handed_out.push(bundle.to_vec())
             });
@@ -368,15 +469,16 @@ fn joins(trial: &mut Trial) {
 /// Two receivers with one state take the same frames, good and damaged, the second with other reserved
 /// bits in the headers. Nothing that they answer or leave may differ.
 fn reserved_bits(trial: &mut Trial) {
+    trial.draft = Draft::D02;
     let mut receiver = some_receiver(trial);
     let mut second = receiver.clone();
     for _ in 0..trial.random.within(4, 16) {
         let mut frame = match trial.random.below(8) {
             0 => generate::random_frame(&mut trial.random),
-            _ => generate::hostile_frame(&mut trial.random, receiver.greatest()),
+            _ => generate::hostile_frame(&mut trial.random, trial.draft, receiver.greatest()),
         };
         if trial.random.once_in(3) && !frame.is_empty() {
-            generate::damage_frame(&mut trial.random, &mut frame);
+            generate::damage_frame(&mut trial.random, trial.draft, &mut frame);
         }
         let (other, changes) = generate::with_reserved_bits(&mut trial.random, &frame);
         let mut place = match trial.random.below(8) {
@@ -403,6 +505,7 @@ fn reserved_bits(trial: &mut Trial) {
 
 /// Every type of message, without and with H, and with all reserved bits that it may have.
 pub fn reserved_bits_of_every_type(trial: &mut Trial) {
+    trial.draft = Draft::D02;
     let content = [2, 1, 0xff, 0, 0, 0, 5, 0, 0, 0, 0, 0x41];
     for kind in 1..=255 {
         for flag in [0, 0x80] {
@@ -421,17 +524,35 @@ pub fn reserved_bits_of_every_type(trial: &mut Trial) {
     }
 }
 
+/// Every type of message of draft 00 with each bit of the length's highest octet.
+pub fn long_lengths_of_every_type(trial: &mut Trial) {
+    trial.draft = Draft::D00;
+    let mut receiver = ReceiverPair::start(trial);
+    for kind in 1..=255 {
+        let mut frame = generate::message(kind, &[], &[0, 0, 0, 5]);
+        let received = receiver.receive(trial, &frame, 0, Lending::default());
+        let short = received == Received::Refused(8);
+        trial.check(short == matches!(kind, 3 | 4), "a short start or segment");
+        for bit in 0..8 {
+            frame[1] = 1 << bit;
+            let received = receiver.receive(trial, &frame, 0, Lending::default());
+            trial.check(received == Received::Refused(6), "a length past the frame");
+        }
+    }
+}
+
 /// Wrong sizes of everything lent, alone and together.
 fn lending(trial: &mut Trial) {
     let mut receiver = some_receiver(trial);
     for _ in 0..trial.random.within(4, 16) {
-        let mut frame = generate::hostile_frame(&mut trial.random, receiver.greatest());
+        let mut frame =
+            generate::hostile_frame(&mut trial.random, trial.draft, receiver.greatest());
         if trial.random.once_in(3) {
             let length = trial.random.pick(&FRAME_LENGTHS);
             frame.resize(length, 0);
         }
         if trial.random.once_in(4) && !frame.is_empty() {
-            generate::damage_frame(&mut trial.random, &mut frame);
+            generate::damage_frame(&mut trial.random, trial.draft, &mut frame);
         }
         let lending = Lending {
             other_pool: trial.random.once_in(3).then(|| {
@@ -450,7 +571,10 @@ fn lending(trial: &mut Trial) {
 
 /// Any sound state, then pieces that just fit, complete, repeat, contradict or overflow its rows.
 fn sound_receivers(trial: &mut Trial) {
-    let image = generate::sound_receiver(&mut trial.random);
+    let mut image = generate::sound_receiver(&mut trial.random, trial.draft.other());
+    let receiver = ReceiverPair::new(trial, &image);
+    trial.check(receiver.is_sound(), "sound in one draft alone");
+    image[RECEIVER_DRAFT] = trial.draft.octet();
     let mut receiver = ReceiverPair::new(trial, &image);
     for _ in 0..trial.random.within(8, 40) {
         let greatest = receiver.greatest().expect("it stays");
@@ -458,9 +582,10 @@ fn sound_receivers(trial: &mut Trial) {
         let octets = generate::row(receiver.image(), number as usize % ROWS);
         let frame = if octets[0] == 1 {
             let open = OpenRow::read(octets);
-            piece_for(&mut trial.random, &open, number)
+            let (piece, data) = generate::piece_for(&mut trial.random, &open, number);
+            piece.message(trial.draft, &[], &data)
         } else {
-            generate::hostile_message(&mut trial.random, &mut Some(number))
+            generate::hostile_message(&mut trial.random, trial.draft, &mut Some(number))
         };
         let received = receiver.receive(trial, &frame, 0, Lending::default());
         trial.check(
@@ -470,35 +595,9 @@ fn sound_receivers(trial: &mut Trial) {
     }
 }
 
-/// A piece for an Open row.
-fn piece_for(random: &mut Random, open: &OpenRow, number: u32) -> Vec<u8> {
-    let held: Vec<u8> = open.pieces.iter().map(|piece| piece.0).collect();
-    let missing: Vec<u8> = (0..64).filter(|index| !held.contains(index)).collect();
-    let room = 4096 - open.octets();
-    let length = match random.below(5) {
-        0 => room,
-        1 => room + 1,
-        2 => room.saturating_sub(1),
-        _ => random.below(40),
-    }
-    .min(2036);
-    let data = random.octets(length);
-    let index = match random.below(4) {
-        0 => random.pick(&held),
-        1 => match open.last {
-            Some(last) => random.pick(&[last, last + 1, last.saturating_sub(1)]),
-            None => held.iter().max().map_or(0, |&most| most + 1),
-        },
-        _ if missing.is_empty() => 64,
-        // The lowest missing one completes a row that lacks no other.
-        _ => missing[random.below(2).min(missing.len() - 1)],
-    };
-    generate::piece(number, u32::from(index), random.once_in(3), &[], &data)
-}
-
 fn unsound_receivers(trial: &mut Trial) {
-    for (damage, _) in RECEIVER_DAMAGE.iter().enumerate() {
-        let image = generate::unsound_receiver(&mut trial.random, damage);
+    for (damage, &name) in RECEIVER_DAMAGE.iter().enumerate() {
+        let mut image = generate::unsound_receiver(&mut trial.random, trial.draft, damage);
         let mut receiver = ReceiverPair::new(trial, &image);
         let frame = generate::random_frame(&mut trial.random);
         let mut lending = Lending::default();
@@ -508,15 +607,25 @@ fn unsound_receivers(trial: &mut Trial) {
         let received = receiver.receive(trial, &frame, 0, lending);
         trial.check(
             received == Received::Refused(1),
-            &format!("unsound state accepted: {}", RECEIVER_DAMAGE[damage]),
+            &format!("unsound state accepted: {name}"),
         );
-        trial.coverage.receiver_damage[damage] += 1;
-        receiver.restart(trial);
+        trial.coverage.of_mut(trial.draft).receiver_damage[damage] += 1;
+        image[RECEIVER_DRAFT] = trial.draft.other().octet();
+        receiver.set_image(trial, &image);
+        trial.check(
+            receiver.is_sound() == (name == NO_DRAFT),
+            &format!("in the other draft: {name}"),
+        );
+        receiver.restart(trial, trial.draft);
     }
-    // Damage anywhere, which may also leave the state sound.
+    damaged_receivers(trial);
+}
+
+/// Damage anywhere, which may also leave the state sound.
+fn damaged_receivers(trial: &mut Trial) {
     let mut receiver = some_receiver(trial);
     for _ in 0..16 {
-        let mut image = generate::sound_receiver(&mut trial.random);
+        let mut image = generate::sound_receiver(&mut trial.random, trial.draft);
         for _ in 0..trial.random.within(1, 3) {
             let row = 8 + trial.random.below(ROWS) * generate::ROW_IMAGE;
             let at = match trial.random.below(3) {
@@ -527,7 +636,7 @@ fn unsound_receivers(trial: &mut Trial) {
             image[at] = trial.random.pick(&[0, 1, 2, 63, 64, 255]);
         }
         receiver.set_image(trial, &image);
-        let frame = generate::hostile_frame(&mut trial.random, Some(7));
+        let frame = generate::hostile_frame(&mut trial.random, trial.draft, Some(7));
         receiver.receive(trial, &frame, 0, Lending::default());
     }
 }
@@ -596,7 +705,11 @@ pub fn fill_edges(trial: &mut Trial, size: usize, fill: usize) {
     let entries = SenderEntries {
         frame_size: size as u16,
         fill: fill as u16,
-        next_number: generate::first_number(&mut trial.random),
+        next_number: match trial.random.once_in(2) {
+            true => u32::MAX,
+            false => generate::first_number(&mut trial.random),
+        },
+        draft: trial.draft.octet(),
         ..SenderEntries::default()
     };
     let image = entries.image();
@@ -622,61 +735,81 @@ pub fn fill_edges(trial: &mut Trial, size: usize, fill: usize) {
 
 fn fills(trial: &mut Trial) {
     let size = generate::frame_size(&mut trial.random);
-    let fill = if trial.random.once_in(2) {
-        size - trial.random.within(1, 20)
-    } else {
-        trial.random.below(size)
+    let fill = match trial.random.below(4) {
+        // Room for a piece of one octet, and for none.
+        0 => size - 13,
+        1 => size - 12,
+        2 => size - trial.random.within(1, 20),
+        _ => trial.random.below(size),
     };
     fill_edges(trial, size, fill);
 }
 
 fn sound_senders(trial: &mut Trial) {
     for _ in 0..trial.random.within(2, 8) {
-        let entries = if trial.random.once_in(3) {
-            SenderEntries::idle(&mut trial.random)
-        } else {
-            SenderEntries::begun(&mut trial.random)
-        };
+        in_another_draft(trial);
+        let entries = SenderEntries::any(&mut trial.random, trial.draft);
         let mut sender = SenderPair::new(trial, &entries.image());
         let flushed = sender.send(trial, Send::Flush);
         trial.check(
             matches!(flushed, Sent::Nothing | Sent::Ready),
             "sound state refused",
         );
-        let Some(length) = sender.begun() else {
-            continue;
-        };
-        if trial.random.once_in(3) {
-            let wrong = trial
-                .random
-                .pick(&[length - 1, (length + 1).min(4096), 1, 4096]);
-            let bundle = trial.random.octets(wrong);
-            let answer = sender.send(trial, Send::Place(&bundle));
-            trial.check(
-                (answer == Sent::Refused(12)) == (wrong != length),
-                "length of the transfer begun",
-            );
-            if wrong == length {
-                continue;
-            }
+        if let Some(length) = sender.begun() {
+            place_rest(trial, &mut sender, length, entries.next_index);
         }
-        let bundle = trial.random.octets(length);
-        let mut pieces = entries.next_index;
-        while sender.begun().is_some() {
-            if trial.random.once_in(20) {
-                sender.send(trial, Send::Cancel);
-                break;
-            }
-            sender.send(trial, Send::Place(&bundle));
-            pieces += 1;
-        }
-        trial.check(pieces <= 64, "more than 64 pieces");
     }
 }
 
+/// Places what remains of a transfer begun, or cancels it on the way.
+fn place_rest(trial: &mut Trial, sender: &mut SenderPair, length: usize, next_index: u32) {
+    if trial.random.once_in(3) {
+        let wrong = trial
+            .random
+            .pick(&[length - 1, (length + 1).min(4096), 1, 4096]);
+        let bundle = trial.random.octets(wrong);
+        let answer = sender.send(trial, Send::Place(&bundle));
+        trial.check(
+            (answer == Sent::Refused(12)) == (wrong != length),
+            "length of the transfer begun",
+        );
+        if wrong == length {
+            return;
+        }
+    }
+    let bundle = trial.random.octets(length);
+    let mut pieces = 0;
+    let mut cancelled = false;
+    while sender.begun().is_some() {
+        cancelled = trial.random.once_in(20);
+        if cancelled {
+            sender.send(trial, Send::Cancel);
+        } else {
+            sender.send(trial, Send::Place(&bundle));
+            pieces += 1;
+        }
+    }
+    let good = match trial.draft {
+        Draft::D00 => cancelled || pieces == next_index + 1,
+        Draft::D02 => next_index + pieces <= 64,
+    };
+    trial.check(good, "the number of pieces");
+}
+
+/// A sound state of the other draft as one of the trial's, which it may not be.
+fn in_another_draft(trial: &mut Trial) {
+    let mut entries = SenderEntries::any(&mut trial.random, trial.draft.other());
+    let sender = SenderPair::new(trial, &entries.image());
+    trial.check(sender.is_sound(), "sound state refused");
+    entries.draft = trial.draft.octet();
+    let mut sender = SenderPair::new(trial, &entries.image());
+    let bundle = trial.random.octets(usize::from(entries.length).max(1));
+    sender.send(trial, Send::Place(&bundle));
+}
+
 fn unsound_senders(trial: &mut Trial) {
-    for (damage, _) in SENDER_DAMAGE.iter().enumerate() {
-        let image = generate::unsound_sender(&mut trial.random, damage);
+    for (damage, &name) in SENDER_DAMAGE.iter().enumerate() {
+        let mut image = generate::unsound_sender(&mut trial.random, trial.draft, damage);
         let mut sender = SenderPair::new(trial, &image);
         let length = trial.random.pick(&[0, 1, 300, 4096, 4097]);
         let bundle = trial.random.octets(length);
@@ -688,17 +821,29 @@ fn unsound_senders(trial: &mut Trial) {
             };
             trial.check(
                 answer == Sent::Refused(1),
-                &format!("unsound state accepted: {}", SENDER_DAMAGE[damage]),
+                &format!("unsound state accepted: {name}"),
             );
         }
-        trial.coverage.sender_damage[damage] += 1;
-    }
-    for _ in 0..16 {
-        let entries = if trial.random.once_in(2) {
-            SenderEntries::idle(&mut trial.random)
+        trial.coverage.of_mut(trial.draft).sender_damage[damage] += 1;
+        // In the other draft it may be sound.
+        let undone = name == NO_DRAFT;
+        let draft = if undone {
+            trial.draft
         } else {
-            SenderEntries::begun(&mut trial.random)
+            trial.draft.other()
         };
+        image[SENDER_DRAFT] = draft.octet();
+        let mut sender = SenderPair::new(trial, &image);
+        sender.send(trial, Send::Place(&bundle));
+        trial.check(sender.is_sound() || !undone, "sound state refused");
+    }
+    damaged_senders(trial);
+}
+
+/// Damage anywhere, which may also leave the state sound.
+fn damaged_senders(trial: &mut Trial) {
+    for _ in 0..16 {
+        let entries = SenderEntries::any(&mut trial.random, trial.draft);
         let mut image = entries.image();
         let at = trial.random.below(image.len());
         image[at] = trial.random.pick(&[0, 1, 2, 127, 128, 255]);
@@ -727,12 +872,12 @@ fn starts(trial: &mut Trial) {
     for size in sizes {
         let image = trial.random.array();
         let mut sender = SenderPair::new(trial, &image);
-        let number = sender.restart(trial, size, first);
+        let number = sender.restart(trial, trial.draft, size, first);
         let expected = if (128..=2048).contains(&size) { 0 } else { 14 };
         trial.check(number == expected, "sender's start");
     }
     for _ in 0..4 {
         let image = trial.random.array();
-        ReceiverPair::new(trial, &image).restart(trial);
+        ReceiverPair::new(trial, &image).restart(trial, trial.draft);
     }
 }

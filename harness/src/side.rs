@@ -1,13 +1,13 @@
 //! One interface for the two sides that are compared.
 
-use crate::model::interface;
+use crate::model::{interface, Draft};
 use btpu::raw::{self, BURST_RESULT, RECEIVER_IMAGE, RECORDED_FRAMES, SENDER_IMAGE};
 
 pub use btpu::raw::{BurstBundles, BurstNotes};
 
 pub trait Side {
     const NAME: &'static str;
-    fn receiver_start(state: &mut [u8; RECEIVER_IMAGE]) -> u32;
+    fn receiver_start(draft: Draft, state: &mut [u8; RECEIVER_IMAGE]) -> u32;
     fn receiver_check(state: &[u8; RECEIVER_IMAGE]) -> u32;
     fn receive(
         state: &mut [u8; RECEIVER_IMAGE],
@@ -26,7 +26,12 @@ pub trait Side {
         notes: BurstNotes,
         result: &mut [u64; BURST_RESULT],
     ) -> u32;
-    fn sender_start(state: &mut [u8; SENDER_IMAGE], frame_size: u64, first_number: u32) -> u32;
+    fn sender_start(
+        draft: Draft,
+        state: &mut [u8; SENDER_IMAGE],
+        frame_size: u64,
+        first_number: u32,
+    ) -> u32;
     fn sender_check(state: &[u8; SENDER_IMAGE]) -> u32;
     fn place(
         state: &mut [u8; SENDER_IMAGE],
@@ -58,8 +63,11 @@ pub struct Exported;
 impl Side for Model {
     const NAME: &'static str = "model";
 
-    fn receiver_start(state: &mut [u8; RECEIVER_IMAGE]) -> u32 {
-        interface::receiver_start(state)
+    fn receiver_start(draft: Draft, state: &mut [u8; RECEIVER_IMAGE]) -> u32 {
+        match draft {
+            Draft::D00 => interface::receiver_start_00(state),
+            Draft::D02 => interface::receiver_start(state),
+        }
     }
 
     fn receiver_check(state: &[u8; RECEIVER_IMAGE]) -> u32 {
@@ -89,8 +97,16 @@ impl Side for Model {
         interface::receive_burst(state, pool, frames, from, bundles, notes, result)
     }
 
-    fn sender_start(state: &mut [u8; SENDER_IMAGE], frame_size: u64, first_number: u32) -> u32 {
-        interface::sender_start(state, frame_size, first_number)
+    fn sender_start(
+        draft: Draft,
+        state: &mut [u8; SENDER_IMAGE],
+        frame_size: u64,
+        first_number: u32,
+    ) -> u32 {
+        match draft {
+            Draft::D00 => interface::sender_start_00(state, frame_size, first_number),
+            Draft::D02 => interface::sender_start(state, frame_size, first_number),
+        }
     }
 
     fn sender_check(state: &[u8; SENDER_IMAGE]) -> u32 {
@@ -141,8 +157,11 @@ impl Side for Model {
 impl Side for Exported {
     const NAME: &'static str = "exported";
 
-    fn receiver_start(state: &mut [u8; RECEIVER_IMAGE]) -> u32 {
-        raw::receiver_start(state)
+    fn receiver_start(draft: Draft, state: &mut [u8; RECEIVER_IMAGE]) -> u32 {
+        match draft {
+            Draft::D00 => raw::receiver_start_00(state),
+            Draft::D02 => raw::receiver_start(state),
+        }
     }
 
     fn receiver_check(state: &[u8; RECEIVER_IMAGE]) -> u32 {
@@ -172,8 +191,16 @@ impl Side for Exported {
         raw::receive_burst(state, pool, frames, from, bundles, notes, result)
     }
 
-    fn sender_start(state: &mut [u8; SENDER_IMAGE], frame_size: u64, first_number: u32) -> u32 {
-        raw::sender_start(state, frame_size, first_number)
+    fn sender_start(
+        draft: Draft,
+        state: &mut [u8; SENDER_IMAGE],
+        frame_size: u64,
+        first_number: u32,
+    ) -> u32 {
+        match draft {
+            Draft::D00 => raw::sender_start_00(state, frame_size, first_number),
+            Draft::D02 => raw::sender_start(state, frame_size, first_number),
+        }
     }
 
     fn sender_check(state: &[u8; SENDER_IMAGE]) -> u32 {

@@ -1,14 +1,15 @@
 //! The two baselines of the speed table against the model: the same answers, bundles and refusals, and of
-//! the receiver on the image the same image and pool.
+//! the receiver on the image the same image and pool. They know draft 02 alone.
 
 use harness::baseline::{inplace, natural};
-use harness::coverage::{Coverage, EDGES, FRAME_LENGTHS};
-use harness::generate::{self, OpenRow, RECEIVER_DAMAGE, ROWS};
+use harness::coverage::{Cases, EDGES, FRAME_LENGTHS};
+use harness::generate::{self, OpenRow, Piece, RECEIVER_DAMAGE, RECEIVER_DRAFT, ROWS};
 use harness::model::image::RECEIVER as RECEIVER_IMAGE;
 use harness::model::receiver::{Answer, State, CELL, MIN_OUTPUT, POOL};
-use harness::model::{interface, Refusal};
+use harness::model::{interface, Draft, Refusal};
 use harness::random::Random;
 
+const DRAFT: Draft = Draft::D02;
 const SEED: u64 = 3_144;
 const ROUNDS: u64 = 2_500;
 const FLOOR: u64 = 200;
@@ -19,7 +20,7 @@ type Refusals = [u64; 10];
 #[derive(Default)]
 struct Tally {
     /// What the model's receiver reached.
-    reached: Coverage,
+    reached: Cases,
     bundles: u64,
     inplace: Refusals,
     natural: Refusals,
@@ -58,7 +59,7 @@ impl Receivers {
     fn some(random: &mut Random) -> Receivers {
         let image = match random.once_in(2) {
             true => [0; RECEIVER_IMAGE],
-            false => generate::sound_receiver(random),
+            false => generate::sound_receiver(random, DRAFT),
         };
         Receivers::new(random, &image)
     }
@@ -162,7 +163,7 @@ fn told(answer: Result<Answer, Refusal>, lent: [u64; 4]) -> (u32, [u64; 4]) {
 fn honest(random: &mut Random, tally: &mut Tally) {
     let mut receivers = Receivers::new(random, &[0; RECEIVER_IMAGE]);
     let transfers = random.within(1, 24);
-    let messages = generate::honest_messages(random, transfers);
+    let messages = generate::honest_messages(random, DRAFT, transfers);
     let size = random.pick(&[100, 400, 1000, 2048]);
     for frame in generate::pack(random, &messages, size) {
         receivers.take(tally, &frame);
@@ -172,7 +173,7 @@ fn honest(random: &mut Random, tally: &mut Tally) {
 fn hostile(random: &mut Random, tally: &mut Tally) {
     let mut receivers = Receivers::some(random);
     for _ in 0..random.within(1, 12) {
-        let frame = generate::hostile_frame(random, receivers.greatest());
+        let frame = generate::hostile_frame(random, DRAFT, receivers.greatest());
         receivers.take(tally, &frame);
     }
 }
@@ -180,9 +181,9 @@ fn hostile(random: &mut Random, tally: &mut Tally) {
 fn malformed(random: &mut Random, tally: &mut Tally) {
     let mut receivers = Receivers::some(random);
     for _ in 0..random.within(4, 16) {
-        let mut frame = generate::hostile_frame(random, receivers.greatest());
+        let mut frame = generate::hostile_frame(random, DRAFT, receivers.greatest());
         for _ in 0..random.within(1, 2) {
-            generate::damage_frame(random, &mut frame);
+            generate::damage_frame(random, DRAFT, &mut frame);
         }
         let place = match random.below(4) {
             0 => random.below(frame.len() + 2) as u64,
@@ -204,9 +205,9 @@ fn octets(random: &mut Random, tally: &mut Tally) {
 fn places(random: &mut Random, tally: &mut Tally) {
     let mut receivers = Receivers::some(random);
     let mut greatest = receivers.greatest();
-    let mut frame = generate::passed(random, 20);
+    let mut frame = generate::passed(random, DRAFT, 20);
     for _ in 0..random.within(1, 4) {
-        let message = generate::hostile_message(random, &mut greatest);
+        let message = generate::hostile_message(random, DRAFT, &mut greatest);
         if frame.len() + message.len() <= 120 {
             frame.extend(message);
         }
@@ -219,38 +220,21 @@ fn places(random: &mut Random, tally: &mut Tally) {
 
 /// Pieces that just fit, complete, repeat, contradict or overflow the rows of a sound state.
 fn rows(random: &mut Random, tally: &mut Tally) {
-    let image = generate::sound_receiver(random);
+    let image = generate::sound_receiver(random, DRAFT);
     let mut receivers = Receivers::new(random, &image);
     for _ in 0..random.within(8, 40) {
         let greatest = receivers.greatest().expect("it stays");
         let number = greatest.wrapping_sub(random.below(ROWS) as u32);
         let row = generate::row(&receivers.image, number as usize % ROWS);
         let frame = match row[0] {
-            1 => piece_for(random, &OpenRow::read(row), number),
-            _ => generate::hostile_message(random, &mut Some(number)),
+            1 => {
+                let (piece, data) = generate::piece_for(random, &OpenRow::read(row), number);
+                piece.message(DRAFT, &[], &data)
+            }
+            _ => generate::hostile_message(random, DRAFT, &mut Some(number)),
         };
         receivers.receive(tally, &frame, 0);
     }
-}
-
-fn piece_for(random: &mut Random, open: &OpenRow, number: u32) -> Vec<u8> {
-    let held: Vec<u8> = open.pieces.iter().map(|piece| piece.0).collect();
-    let missing: Vec<u8> = (0..64).filter(|index| !held.contains(index)).collect();
-    let room = 4096 - open.octets();
-    let few = random.below(40);
-    let length = random
-        .pick(&[room, room + 1, room.saturating_sub(1), few, few])
-        .min(2036);
-    let index = match random.below(4) {
-        0 => random.pick(&held),
-        1 => match open.last {
-            Some(last) => random.pick(&[last, last + 1, last.saturating_sub(1)]),
-            None => held.iter().max().map_or(0, |&most| most + 1),
-        },
-        _ => missing.get(random.below(2)).copied().unwrap_or(64),
-    };
-    let data = random.octets(length);
-    generate::piece(number, index.into(), random.once_in(3), &[], &data)
 }
 
 /// Transfers of up to 64 pieces in rising, falling or any order, that come in single frames.
@@ -273,9 +257,9 @@ fn joins(random: &mut Random, tally: &mut Tally) {
         _ => random.shuffle(&mut order),
     }
     let before = tally.bundles;
-    for index in order {
-        let end = index + 1 == pieces.len();
-        let frame = generate::piece(number, index as u32, end, &[], pieces[index]);
+    for place in order {
+        let piece = Piece::sent(DRAFT, number, place, pieces.len());
+        let frame = piece.message(DRAFT, &[], pieces[place]);
         receivers.take(tally, &frame);
     }
     assert_eq!(tally.bundles, before + 1);
@@ -286,7 +270,7 @@ fn joins(random: &mut Random, tally: &mut Tally) {
 fn lending(random: &mut Random, tally: &mut Tally) {
     let receivers = Receivers::some(random);
     for _ in 0..random.within(2, 8) {
-        let mut frame = generate::hostile_frame(random, receivers.greatest());
+        let mut frame = generate::hostile_frame(random, DRAFT, receivers.greatest());
         if random.once_in(3) {
             frame.resize(random.pick(&FRAME_LENGTHS), 0);
         }
@@ -299,7 +283,7 @@ fn lending(random: &mut Random, tally: &mut Tally) {
 
 fn unsound(random: &mut Random, tally: &mut Tally) {
     for (damage, name) in RECEIVER_DAMAGE.iter().enumerate() {
-        let image = generate::unsound_receiver(random, damage);
+        let image = generate::unsound_receiver(random, DRAFT, damage);
         let before = tally.inplace[1];
         let mut receivers = Receivers::new(random, &image);
         receivers.receive(tally, &generate::random_frame(random), 0);
@@ -339,7 +323,8 @@ fn the_baselines_agree_with_the_model() {
         let cannot = number == 1 || number == 2;
         assert_eq!(tally.natural[number] < FLOOR, cannot, "natural: {number}");
     }
-    let counts = [&reached.steps[1..], &reached.contradictions, &reached.joins];
+    let [segments, ends] = reached.steps.each_ref().map(|steps| &steps[1..]);
+    let counts = [segments, ends, &reached.contradictions, &reached.joins];
     let more = [&reached.edges[..], &reached.cancels, &reached.distances];
     for counts in counts.iter().chain(&more) {
         assert!(counts.iter().all(|&count| count >= FLOOR), "{counts:?}");
@@ -355,7 +340,7 @@ fn every_octet_of_some_images() {
     let mut random = Random::new(SEED);
     let (mut sound, mut unsound) = (0, 0);
     for _ in 0..12 {
-        let image = generate::sound_receiver(&mut random);
+        let image = generate::sound_receiver(&mut random, DRAFT);
         let (mut pool, mut output) = (vec![0; POOL], [0; MIN_OUTPUT]);
         for at in 0..RECEIVER_IMAGE {
             let before = image[at];
@@ -363,7 +348,10 @@ fn every_octet_of_some_images() {
             for octet in near.into_iter().chain([0, 1, 4, 5, 63, 64, 255]) {
                 let mut changed = image;
                 changed[at] = octet;
-                let expected = interface::receiver_check(&changed);
+                let expected = match changed[RECEIVER_DRAFT] {
+                    0 => interface::receiver_check(&changed),
+                    _ => 1,
+                };
                 let left = changed;
                 let lent = &mut [0; 4];
                 let returned =

@@ -1,4 +1,4 @@
-//! Bursts: the exported call against the model, and against single calls.
+//! Bursts: the exported call against the model, and against single calls, in both drafts.
 
 use btpu::raw::{
     BURST_BUNDLES, BURST_FRAMES, BURST_RESULT, MAX_FRAME, MIN_OUTPUT, POOL, RECEIVER_IMAGE,
@@ -6,6 +6,7 @@ use btpu::raw::{
 use harness::baseline::natural;
 use harness::generate::{self, BUNDLE, RECEIVER_DAMAGE};
 use harness::model::receiver::State;
+use harness::model::Draft;
 use harness::random::Random;
 use harness::side::{Exported, Model, Side};
 
@@ -54,8 +55,8 @@ impl Memory {
         }
     }
 
-    fn fresh(random: &mut Random, output: usize) -> Memory {
-        Memory::new(random, [0; RECEIVER_IMAGE], POOL, output)
+    fn fresh(random: &mut Random, draft: Draft, output: usize) -> Memory {
+        Memory::new(random, generate::fresh_receiver(draft), POOL, output)
     }
 
     fn room(&self) -> usize {
@@ -180,18 +181,22 @@ impl Tally {
         self.inside += u64::from(place != 0);
     }
 
-    fn check_all_reached(&self) {
+    fn check_all_reached(&self, draft: Draft) {
         println!(
-            "{} calls, refused {:?}, noted {:?}, stops: {} full, {} short, {} at a front, {} inside",
+            "{draft}: {} calls, refused {:?}, noted {:?}, stops: {} full, {} short, {} at a front, {} inside",
             self.calls, self.refused, self.noted, self.full, self.short, self.at_front, self.inside
         );
         for number in [0, 1, 2, 3, 19, 9] {
-            assert!(self.refused[number] >= FLOOR, "refusal {number}");
+            assert!(self.refused[number] >= FLOOR, "{draft}: refusal {number}");
         }
-        for number in [3, 4, 6, 7, 8] {
-            assert!(self.noted[number] >= FLOOR, "noted {number}");
+        for number in [3, 4, 6, 8] {
+            assert!(self.noted[number] >= FLOOR, "{draft}: noted {number}");
         }
         assert_eq!(self.noted[5], 0);
+        match draft {
+            Draft::D00 => assert_eq!(self.noted[7], 0),
+            Draft::D02 => assert!(self.noted[7] >= FLOOR, "noted 7"),
+        }
         for stops in [self.full, self.short, self.at_front, self.inside] {
             assert!(stops >= FLOOR, "stops");
         }
@@ -204,7 +209,7 @@ fn dense_frame(random: &mut Random, length: usize) -> Vec<u8> {
     message.repeat(MAX_FRAME / message.len())
 }
 
-fn any_frame(random: &mut Random, greatest: Option<u32>) -> Vec<u8> {
+fn any_frame(random: &mut Random, draft: Draft, greatest: Option<u32>) -> Vec<u8> {
     match random.below(16) {
         0 => generate::random_frame(random),
         1 => vec![random.pick(&[0, 2]); random.pick(&[0, 1, 2048, 2049])],
@@ -213,25 +218,27 @@ fn any_frame(random: &mut Random, greatest: Option<u32>) -> Vec<u8> {
             dense_frame(random, length)
         }
         5..=6 => {
-            let mut frame = generate::hostile_frame(random, greatest);
-            generate::damage_frame(random, &mut frame);
+            let mut frame = generate::hostile_frame(random, draft, greatest);
+            generate::damage_frame(random, draft, &mut frame);
             frame
         }
-        _ => generate::hostile_frame(random, greatest),
+        7 => generate::hostile_frame(random, draft.other(), greatest),
+        _ => generate::hostile_frame(random, draft, greatest),
     }
 }
 
-/// Up to 66 frames.
-fn any_frames(random: &mut Random, greatest: Option<u32>) -> Vec<Vec<u8>> {
+/// Up to 66 frames, most of them of this draft.
+fn any_frames(random: &mut Random, draft: Draft, greatest: Option<u32>) -> Vec<Vec<u8>> {
     if random.once_in(3) {
-        let mut frames = generate::recorded_frames(random);
+        let mut frames = generate::recorded_frames(random, draft);
         frames.truncate(BURST_FRAMES + 2);
         return frames;
     }
     let most = random.pick(&[0, 3, 10, 66]);
     let few = random.below(most + 1);
     let count = random.pick(&[64, 65, few, few, few]);
-    let mut frames: Vec<_> = (0..count).map(|_| any_frame(random, greatest)).collect();
+    let frames = (0..count).map(|_| any_frame(random, draft, greatest));
+    let mut frames: Vec<_> = frames.collect();
     if count > 0 && random.once_in(12) {
         let longest = vec![2; usize::from(u16::MAX)];
         frames[random.below(count)] = longest;
@@ -240,7 +247,7 @@ fn any_frames(random: &mut Random, greatest: Option<u32>) -> Vec<Vec<u8>> {
 }
 
 /// A frame and a place in it, or neither.
-fn any_start(random: &mut Random, frames: &[Vec<u8>]) -> (u64, u64) {
+fn any_start(random: &mut Random, draft: Draft, frames: &[Vec<u8>]) -> (u64, u64) {
     let count = frames.len() as u64;
     let far = random.pick(&[1, 2, 1 << 32, u64::MAX]);
     match random.below(10) {
@@ -253,7 +260,7 @@ fn any_start(random: &mut Random, frames: &[Vec<u8>]) -> (u64, u64) {
         return (0, 0);
     }
     let frame = random.below(frames.len());
-    let good = generate::good_places(&frames[frame]);
+    let good = generate::good_places(draft, &frames[frame]);
     let good = good[random.below(good.len())];
     let length = frames[frame].len();
     let any = random.below(length + 3) as u64;
@@ -261,14 +268,14 @@ fn any_start(random: &mut Random, frames: &[Vec<u8>]) -> (u64, u64) {
     (frame as u64, place)
 }
 
-fn any_memory(random: &mut Random) -> Memory {
+fn any_memory(random: &mut Random, draft: Draft) -> Memory {
     let image = match random.below(12) {
         0 => {
             let damage = random.below(RECEIVER_DAMAGE.len());
-            generate::unsound_receiver(random, damage)
+            generate::unsound_receiver(random, draft, damage)
         }
-        1..=5 => generate::sound_receiver(random),
-        _ => [0; RECEIVER_IMAGE],
+        1..=5 => generate::sound_receiver(random, draft),
+        _ => generate::fresh_receiver(draft),
     };
     let pool = match random.below(16) {
         0 => random.pick(&[0, 1, POOL - 1, POOL + 1]),
@@ -309,24 +316,29 @@ fn take(tally: &mut Tally, memory: &mut Memory, sizes: &[u16], octets: &[u8], fr
 
 #[test]
 fn random_bursts() {
-    let mut tally = Tally::default();
-    for round in 0..ROUNDS {
-        let random = &mut Random::new(SEED + round);
-        let mut memory = any_memory(random);
-        for _ in 0..random.within(1, 3) {
-            let greatest = Some(u32::from_be_bytes(
-                [0, 1, 2, 3].map(|at| memory.image[4 + at]),
-            ));
-            let frames = any_frames(random, greatest);
-            let (sizes, mut octets) = generate::joined(&frames);
-            if random.once_in(16) {
-                spoil_sum(random, &mut octets);
-            }
-            let from = any_start(random, &frames);
-            take(&mut tally, &mut memory, &sizes, &octets, from);
+    for draft in Draft::BOTH {
+        let mut tally = Tally::default();
+        for round in 0..ROUNDS {
+            random_lists(&mut tally, draft, &mut Random::new(SEED + round));
         }
+        tally.check_all_reached(draft);
     }
-    tally.check_all_reached();
+}
+
+fn random_lists(tally: &mut Tally, draft: Draft, random: &mut Random) {
+    let mut memory = any_memory(random, draft);
+    for _ in 0..random.within(1, 3) {
+        let greatest = Some(u32::from_be_bytes(
+            [0, 1, 2, 3].map(|at| memory.image[4 + at]),
+        ));
+        let frames = any_frames(random, draft, greatest);
+        let (sizes, mut octets) = generate::joined(&frames);
+        if random.once_in(16) {
+            spoil_sum(random, &mut octets);
+        }
+        let from = any_start(random, draft, &frames);
+        take(tally, &mut memory, &sizes, &octets, from);
+    }
 }
 
 /// What comes of frames taken from a start on.
@@ -373,10 +385,12 @@ fn by_bursts(
     }
 }
 
-/// A receiver that the speed of bursts is measured against; its state and pool are its own.
-fn natural(start: &Memory) -> natural::Receiver {
+/// A receiver that the speed of bursts is measured against; its state and pool are its own. It knows draft
+/// 02 alone.
+fn natural(start: &Memory) -> Option<natural::Receiver> {
     let state = State::decode(&start.image).expect("a sound state");
-    natural::Receiver::restored(&state, &start.pool)
+    let known = state.draft == Draft::D02;
+    known.then(|| natural::Receiver::restored(&state, &start.pool))
 }
 
 fn natural_call(receiver: &mut natural::Receiver, memory: &mut Memory, call: &Call) -> u32 {
@@ -433,38 +447,53 @@ fn check_outcomes(start: &Memory, frames: &[Vec<u8>], from: (u64, u64)) -> Outco
     let expected = by_single_calls::<Exported>(start, frames, from);
     assert!(by_bursts(start, frames, from, Memory::call::<Exported>) == expected);
     assert!(by_bursts(start, frames, from, Memory::call::<Model>) == expected);
-    let mut receiver = natural(start);
-    let call = |memory: &mut Memory, call: &Call| natural_call(&mut receiver, memory, call);
-    let found = by_bursts(start, frames, from, call);
-    assert!(found.bundles == expected.bundles && found.refused == expected.refused);
+    if let Some(mut receiver) = natural(start) {
+        let call = |memory: &mut Memory, call: &Call| natural_call(&mut receiver, memory, call);
+        let found = by_bursts(start, frames, from, call);
+        assert!(found.bundles == expected.bundles && found.refused == expected.refused);
+    }
     expected
 }
 
-/// Any frames, and the same with other reserved bits.
+/// Any frames, and in draft 02 the same with other reserved bits.
 #[test]
 fn the_same_as_single_calls() {
-    let mut bundles = 0;
-    for round in 0..ROUNDS / 8 {
-        let random = &mut Random::new(SEED + round);
-        let image = match random.once_in(2) {
-            true => generate::sound_receiver(random),
-            false => [0; RECEIVER_IMAGE],
-        };
-        let output = random.pick(&[4096, 4097, 8192, 300_000]);
-        let start = Memory::new(random, image, POOL, output);
-        let mut frames = any_frames(random, Some(round as u32));
-        frames.truncate(BURST_FRAMES);
-        let expected = check_outcomes(&start, &frames, (0, 0));
-        bundles += expected.bundles.len();
-        let other: Vec<Vec<u8>> = frames
-            .iter()
-            .map(|frame| generate::with_reserved_bits(random, frame).0)
-            .collect();
-        let found = by_bursts(&start, &other, (0, 0), Memory::call::<Exported>);
-        assert!(found == expected);
+    for draft in Draft::BOTH {
+        let mut bundles = 0;
+        for round in 0..ROUNDS / 8 {
+            let random = &mut Random::new(SEED + round);
+            let image = match random.once_in(2) {
+                true => generate::sound_receiver(random, draft),
+                false => generate::fresh_receiver(draft),
+            };
+            let output = random.pick(&[4096, 4097, 8192, 300_000]);
+            let start = Memory::new(random, image, POOL, output);
+            let mut frames = any_frames(random, draft, Some(round as u32));
+            frames.truncate(BURST_FRAMES);
+            let expected = check_outcomes(&start, &frames, (0, 0));
+            bundles += expected.bundles.len();
+            if draft == Draft::D02 {
+                check_reserved_bits(random, &start, &frames, &expected);
+            }
+        }
+        println!("{draft}: {bundles} bundles");
+        assert!(bundles > 50_000);
     }
-    println!("{bundles} bundles");
-    assert!(bundles > 50_000);
+}
+
+#[track_caller]
+fn check_reserved_bits(
+    random: &mut Random,
+    start: &Memory,
+    frames: &[Vec<u8>],
+    expected: &Outcome,
+) {
+    let other: Vec<Vec<u8>> = frames
+        .iter()
+        .map(|frame| generate::with_reserved_bits(random, frame).0)
+        .collect();
+    let found = by_bursts(start, &other, (0, 0), Memory::call::<Exported>);
+    assert!(found == *expected);
 }
 
 /// Every frame and place of small lists, with those that are not good.
@@ -472,11 +501,12 @@ fn the_same_as_single_calls() {
 fn every_start() {
     let mut tally = Tally::default();
     let mut starts = 0;
-    for round in 0..ROUNDS / 10 {
-        let random = &mut Random::new(SEED + round);
-        let frames = generate::small_frames(random);
+    for round in 0..ROUNDS / 5 {
+        let random = &mut Random::new(SEED + round / 2);
+        let draft = Draft::BOTH[round as usize % 2];
+        let frames = generate::small_frames(random, draft);
         let (sizes, octets) = generate::joined(&frames);
-        let image = generate::sound_receiver(random);
+        let image = generate::sound_receiver(random, draft);
         let start = Memory::new(random, image, POOL, 4096);
         for first in 0..frames.len() + 2 {
             let length = frames.get(first).map_or(0, Vec::len);
@@ -502,7 +532,7 @@ fn every_start() {
         }
     }
     println!("{starts} starts, refused {:?}", tally.refused);
-    assert!(starts > 3_000 && tally.refused[9] > 3_000);
+    assert!(starts > 6_000 && tally.refused[9] > 6_000);
 }
 
 /// By a single call of the model; at the number of frames only 0 is good.
@@ -598,25 +628,33 @@ fn starts() -> Vec<Edge> {
 #[test]
 fn edges() {
     let random = &mut Random::new(SEED);
-    let mut tally = Tally::default();
-    for (name, frames, from, output, expected) in [stops(), starts()].concat() {
-        let (sizes, octets) = generate::joined(&frames);
-        let mut memory = Memory::fresh(random, output);
-        let call = Call {
-            sizes: &sizes,
-            octets: &octets,
-            from,
-        };
-        let found = |returned, memory: &Memory| match returned {
-            0 => Ok(memory.result),
-            number => Err(number),
-        };
-        let mut other = memory.clone();
-        let returned = natural_call(&mut natural(&memory), &mut other, &call);
-        assert_eq!(found(returned, &other), expected, "natural: {name}");
-        let returned = tally.call(&mut memory, &call);
-        assert_eq!(found(returned, &memory), expected, "{name}");
+    for draft in Draft::BOTH {
+        for edge in [stops(), starts()].concat() {
+            check_edge(random, draft, edge);
+        }
     }
+}
+
+/// The frames of these lists have no flags and no pieces, and so are the same in both drafts.
+fn check_edge(random: &mut Random, draft: Draft, (name, frames, from, output, expected): Edge) {
+    let (sizes, octets) = generate::joined(&frames);
+    let mut memory = Memory::fresh(random, draft, output);
+    let call = Call {
+        sizes: &sizes,
+        octets: &octets,
+        from,
+    };
+    let found = |returned, memory: &Memory| match returned {
+        0 => Ok(memory.result),
+        number => Err(number),
+    };
+    if let Some(mut receiver) = natural(&memory) {
+        let mut other = memory.clone();
+        let returned = natural_call(&mut receiver, &mut other, &call);
+        assert_eq!(found(returned, &other), expected, "natural: {name}");
+    }
+    let returned = Tally::default().call(&mut memory, &call);
+    assert_eq!(found(returned, &memory), expected, "{draft}: {name}");
 }
 
 /// Every way of being wrong in some of five ways: the first one is refused.
@@ -624,7 +662,8 @@ fn edges() {
 fn refusals_in_order() {
     let random = &mut Random::new(SEED);
     let mut tally = Tally::default();
-    for wrong in 0..32u32 {
+    for wrong in 0..64u32 {
+        let draft = Draft::BOTH[wrong as usize >> 5];
         let is_wrong = |way: u32| wrong >> way & 1 == 1;
         for (pool, output) in [(POOL, 4095), (POOL - 1, 4096), (POOL + 1, 4096), (0, 0)] {
             let (pool, output) = if is_wrong(1) {
@@ -632,7 +671,7 @@ fn refusals_in_order() {
             } else {
                 (POOL, 4096)
             };
-            let mut memory = Memory::new(random, [0; RECEIVER_IMAGE], pool, output);
+            let mut memory = Memory::new(random, generate::fresh_receiver(draft), pool, output);
             memory.image[0] = if is_wrong(0) { 2 } else { 0 };
             let frames = vec![bundles(1, 2); if is_wrong(2) { 65 } else { 64 }];
             let (sizes, mut octets) = generate::joined(&frames);

@@ -1,15 +1,16 @@
 //! Generated calls on the model and the exported interface, compared octet for octet.
 
 use harness::compare::Trial;
-use harness::coverage::{Coverage, NEVER_GIVEN};
+use harness::coverage::{Coverage, NEVER_GIVEN, NEVER_GIVEN_00};
+use harness::model::Draft;
 use harness::scenario::{self, recordings, SCENARIOS};
 
 const DEFAULT_SEED: u64 = 2_048;
 const ROUNDS: u64 = 1_000;
 
-/// No case may be reached less often, and none of those that cost time; of these half as often will do with
-/// a seed that is given.
-const FLOOR: u64 = 200;
+/// No case of a draft may be reached less often, and none of those that cost time; of these half as often
+/// will do with a seed that is given.
+const FLOOR: u64 = 120;
 const FLOOR_OF_EXTREMES: u64 = 40;
 
 /// The seed that the environment variable BTPU_SEED gives. It is shown where a test fails.
@@ -36,31 +37,44 @@ fn every_scenario_agrees_and_every_case_is_reached() {
         println!("{count:>9} {case}");
     }
     println!(
-        "{} calls: {} receiving, {} sending, {} starts, {} checks, {} for recordings, {} bursts",
+        "{} calls, {} with states of draft 00: {} receiving, {} sending, {} starts, {} checks, \
+         {} for recordings, {} bursts",
         coverage.calls(),
+        coverage.of(Draft::D00).calls(),
         coverage.receiving_calls,
         coverage.sending_calls,
         coverage.starts,
-        coverage.checks(),
+        coverage.checks,
         coverage.recording_calls,
         coverage.burst_calls
     );
+    check_all_reached(&coverage);
+}
+
+fn check_all_reached(coverage: &Coverage) {
     for (case, count) in coverage.cases() {
         assert!(count >= FLOOR, "{case}: only {count}");
     }
     let floor = FLOOR_OF_EXTREMES / if seed() == DEFAULT_SEED { 1 } else { 2 };
-    for (case, count) in extremes {
+    for (case, count) in coverage.recordings.extremes() {
         assert!(count >= floor, "{case}: only {count}");
     }
     for number in NEVER_GIVEN {
         assert_eq!(coverage.refusals[number], 0);
     }
+    let old = coverage.of(Draft::D00);
+    for number in [5].into_iter().chain(NEVER_GIVEN_00) {
+        assert_eq!(old.refusals[number] + old.noted[number], 0, "draft 00");
+    }
     assert!(coverage.receiving_calls >= 120_000);
     assert!(coverage.sending_calls >= 60_000);
     assert!(coverage.recording_calls >= 40_000);
     assert!(coverage.burst_calls >= 4_000);
-    assert!(coverage.checks() >= 150_000);
+    assert!(coverage.checks >= 150_000);
     assert!(coverage.calls() >= 390_000);
+    for draft in Draft::BOTH {
+        assert!(coverage.of(draft).calls() >= 200_000, "{draft}");
+    }
     assert_eq!(coverage.refusals.iter().sum::<u64>(), coverage.calls());
 }
 
@@ -68,12 +82,15 @@ fn every_scenario_agrees_and_every_case_is_reached() {
 fn every_fill_of_the_smallest_and_the_greatest_frame() {
     let mut coverage = Coverage::default();
     let mut trial = Trial::new("every fill", seed(), &mut coverage);
-    for size in [128, 129, 2048] {
-        for fill in 0..size {
-            scenario::fill_edges(&mut trial, size, fill);
+    for draft in Draft::BOTH {
+        trial.draft = draft;
+        for size in [128, 129, 2048] {
+            for fill in 0..size {
+                scenario::fill_edges(&mut trial, size, fill);
+            }
         }
     }
-    assert_eq!(coverage.sending_calls, (128 + 129 + 2048) * 16);
+    assert_eq!(coverage.sending_calls, 2 * (128 + 129 + 2048) * 16);
 }
 
 #[test]
@@ -82,6 +99,15 @@ fn every_type_with_every_reserved_bit() {
     let mut trial = Trial::new("every type", seed(), &mut coverage);
     scenario::reserved_bits_of_every_type(&mut trial);
     assert_eq!(coverage.receiving_calls, 255 * 2 * 8);
+}
+
+#[test]
+fn every_type_with_every_bit_of_a_long_length() {
+    let mut coverage = Coverage::default();
+    let mut trial = Trial::new("every type", seed(), &mut coverage);
+    scenario::long_lengths_of_every_type(&mut trial);
+    assert_eq!(coverage.receiving_calls, 255 * 9);
+    assert_eq!(coverage.of(Draft::D00).refusals[6], 255 * 8);
 }
 
 /// Runs a trial with so many seeds, and with more until enough is reached; answers what it reached.

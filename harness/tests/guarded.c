@@ -1,5 +1,5 @@
 /*
- * Generated calls of every function on memory between guard pages.
+ * Generated calls of every function on memory between guard pages, with states of both drafts.
  *
  * What is lent ends at a guard page or starts behind one; what is const is read only during the
  * call. After every call all that must have stayed is compared. For 60 seconds with seed 7, from
@@ -38,6 +38,17 @@ static size_t frames, octets_len;
 static uint8_t recording[17 * PAGE];
 static size_t recording_len;
 
+static enum draft any_draft(void)
+{
+    return once_in(2) ? DRAFT_00 : DRAFT_02;
+}
+
+/* Of frames by hand for the receiver: mostly its own. */
+static enum draft draft_of_frames(void)
+{
+    return (receiver[BTPU_RECEIVER_DRAFT] == DRAFT_00) != once_in(8) ? DRAFT_00 : DRAFT_02;
+}
+
 static void add_bundle(struct bundles *bundles, const uint8_t *bundle, size_t length)
 {
     expect(bundles->count < BTPU_PLAYED_BUNDLES &&
@@ -48,13 +59,13 @@ static void add_bundle(struct bundles *bundles, const uint8_t *bundle, size_t le
     bundles->octets += length;
 }
 
-static void expect_placed(const uint16_t *lengths, size_t count, const uint8_t *joined,
-                          size_t length)
+static void expect_bundles(const struct bundles *expected, const uint16_t *lengths, size_t count,
+                           const uint8_t *joined, size_t length)
 {
-    expect(count == placed.count && length == placed.octets &&
-               memcmp(lengths, placed.lengths, count * sizeof lengths[0]) == 0 &&
-               memcmp(joined, placed.joined, length) == 0,
-           "other bundles than were placed");
+    expect(count == expected->count && length == expected->octets &&
+               memcmp(lengths, expected->lengths, count * sizeof lengths[0]) == 0 &&
+               memcmp(joined, expected->joined, length) == 0,
+           "other bundles than were placed or taken");
 }
 
 static void add_frame(const uint8_t *frame, size_t length)
@@ -73,12 +84,14 @@ static int receiver_is_sound(const uint8_t *image)
     return leave(btpu_receiver_check(areas[STATE].at)) == 0;
 }
 
-static void start_receiver(void)
+static void start_receiver(enum draft draft)
 {
     lend_any(STATE, BTPU_RECEIVER_IMAGE);
-    enter(RECEIVER_START);
-    leave(btpu_receiver_start(areas[STATE].at));
+    enter(draft == DRAFT_00 ? RECEIVER_START_00 : RECEIVER_START);
+    leave(draft == DRAFT_00 ? btpu_receiver_start_00(areas[STATE].at)
+                            : btpu_receiver_start(areas[STATE].at));
     memcpy(receiver, areas[STATE].at, sizeof receiver);
+    expect(receiver[BTPU_RECEIVER_DRAFT] == draft, "draft of a fresh state");
     expect(receiver_is_sound(receiver), "a fresh state is not sound");
 }
 
@@ -194,7 +207,8 @@ static void expect_handed_out(void)
     expect_stays(LONG_OUTPUT, sum);
     for (size_t k = 0; k < refused; k++)
         expect((k == 0 || places[k] > places[k - 1]) && reasons[k] >= 3 && reasons[k] <= 8 &&
-                   reasons[k] != BTPU_REFUSED_FLAG,
+                   reasons[k] != BTPU_REFUSED_FLAG &&
+                   (draft_now == DRAFT_02 || reasons[k] != BTPU_REFUSED_HINTS),
                "note of a refused frame");
 }
 
@@ -301,16 +315,20 @@ static int sender_is_sound(const uint8_t *image)
     return leave(btpu_sender_check(areas[STATE].at)) == 0;
 }
 
-static void start_sender(uint64_t frame_size, uint32_t first_number)
+static void start_sender(enum draft draft, uint64_t frame_size, uint32_t first_number)
 {
     lend_any(STATE, BTPU_SENDER_IMAGE);
-    enter(SENDER_START);
-    uint32_t number = leave(btpu_sender_start(areas[STATE].at, frame_size, first_number));
+    enter(draft == DRAFT_00 ? SENDER_START_00 : SENDER_START);
+    uint32_t number =
+        leave(draft == DRAFT_00
+                  ? btpu_sender_start_00(areas[STATE].at, frame_size, first_number)
+                  : btpu_sender_start(areas[STATE].at, frame_size, first_number));
     int allowed = frame_size >= BTPU_MIN_FRAME_SIZE && frame_size <= BTPU_MAX_FRAME_SIZE;
     expect(number == (allowed ? 0 : BTPU_REFUSED_FRAME_SIZE), "frame size");
     if (number != 0)
         return;
     memcpy(sender, areas[STATE].at, sizeof sender);
+    expect(sender[BTPU_SENDER_DRAFT] == draft, "draft of a fresh state");
     expect(sender_is_sound(sender), "a fresh state is not sound");
 }
 
@@ -545,8 +563,8 @@ static size_t put_hints(uint8_t *to, size_t room)
     return at < room ? at : room;
 }
 
-/* A message of any type, mostly well formed; the answer is how many octets it takes. */
-static size_t put_message(uint8_t *to, size_t room, uint32_t first_number)
+/* A message of any type, mostly well formed in a draft; the answer is how many octets it takes. */
+static size_t put_message(uint8_t *to, size_t room, uint32_t first_number, enum draft draft)
 {
     static const uint8_t kinds[] = {1, 2, 2, 3, 3, 3, 4, 4, 4, 5};
     if (room < 24 || once_in(12)) {
@@ -555,7 +573,7 @@ static size_t put_message(uint8_t *to, size_t room, uint32_t first_number)
         return zeros;
     }
     uint8_t kind = once_in(8) ? (uint8_t)within(6, 255) : PICK(kinds);
-    uint8_t hinted = once_in(3) ? 0x80 : 0;
+    uint8_t hinted = once_in(draft == DRAFT_00 ? 60 : 3) ? 0x80 : 0;
     size_t data = once_in(4) ? below(room - 23) : below(8);
     size_t at = 4 + (hinted ? put_hints(to + 4, room - 4 - 8 - data) : 0);
     uint32_t index = once_in(12) ? (uint32_t)below(70) : (uint32_t)below(3);
@@ -566,7 +584,7 @@ static size_t put_message(uint8_t *to, size_t room, uint32_t first_number)
     at += kind == 3 || kind == 4 ? 8 + data : kind == 5 ? 4 : data;
     size_t length = once_in(60) ? below(at + 20) : at - 4;
     to[0] = kind;
-    to[1] = once_in(4) ? hinted | (draw() & 0x70) : hinted;
+    to[1] = once_in(draft == DRAFT_00 ? 60 : 4) ? hinted | (draw() & 0x70) : hinted;
     to[2] = (uint8_t)(length >> 8);
     to[3] = (uint8_t)length;
     return at;
@@ -581,8 +599,8 @@ static void damage(uint8_t *to, size_t length)
     }
 }
 
-/* A frame of messages, damaged or of any octets; the answer is its length. */
-static size_t make_frame(uint8_t *to, uint32_t first_number)
+/* A frame of messages of a draft, damaged or of any octets; the answer is its length. */
+static size_t make_frame(uint8_t *to, uint32_t first_number, enum draft draft)
 {
     static const size_t lengths[] = {0, 1, 2, 3, 2047, 2048, 2049, LONGEST_FRAME};
     size_t length = once_in(6) ? PICK(lengths) : once_in(3) ? within(1, 2048) : within(1, 200);
@@ -590,7 +608,7 @@ static size_t make_frame(uint8_t *to, uint32_t first_number)
     if (once_in(10))
         return length;
     for (size_t at = 0; at < length;)
-        at += put_message(to + at, length - at, first_number);
+        at += put_message(to + at, length - at, first_number, draft);
     if (once_in(5))
         damage(to, length);
     return once_in(10) && length > 0 ? below(length) : length;
@@ -598,14 +616,11 @@ static size_t make_frame(uint8_t *to, uint32_t first_number)
 
 /* ---- rounds */
 
-/* What is placed arrives, frame by frame and from a recording; then with losses and damage. */
-static void round_of_link(void)
+/* Places bundles to their end, or cancels them, in frames of this size; all frames are kept. */
+static void send_bundles(enum draft draft, size_t size)
 {
-    static const size_t edges[] = {128, 129, 512, 2047, 2048};
-    static uint8_t frame[BTPU_MAX_FRAME];
-    size_t size = once_in(2) ? PICK(edges) : within(128, 2048);
-    frames = octets_len = placed.count = placed.octets = arrived.count = arrived.octets = 0;
-    start_sender(size, once_in(2) ? (uint32_t)draw() : UINT32_MAX - (uint32_t)below(8));
+    frames = octets_len = placed.count = placed.octets = 0;
+    start_sender(draft, size, once_in(2) ? (uint32_t)draw() : UINT32_MAX - (uint32_t)below(8));
     for (size_t n = within(1, 24); n > 0 && octets_len + 10240 <= BTPU_RECORDED_OCTETS; n--) {
         size_t length = once_in(2) ? within(1, 200) : once_in(4) ? 4096 : within(1, 4096);
         place_bundle(any_octets(length), length);
@@ -613,22 +628,48 @@ static void round_of_link(void)
             sent(FLUSH, NULL, 0);
     }
     sent(FLUSH, NULL, 0);
-    start_receiver();
+}
+
+/* All frames that were kept arrive at a fresh receiver, frame by frame. */
+static void take_singly(enum draft draft)
+{
+    arrived.count = arrived.octets = 0;
+    start_receiver(draft);
     for (size_t k = 0, at = 0; k < frames; at += sizes[k++])
         take(octets + at, sizes[k], &arrived);
-    expect_placed(arrived.lengths, arrived.count, arrived.joined, arrived.octets);
-    arrived.count = arrived.octets = 0;
-    start_receiver();
-    take_frames(&arrived);
-    expect_placed(arrived.lengths, arrived.count, arrived.joined, arrived.octets);
+}
+
+/* A playback hands out what a receiver of draft 02 does, also of frames of draft 00. */
+static void expect_played_as_taken(void)
+{
+    take_singly(DRAFT_02);
     expect(record(frames, octets_len, 8 + 2 * frames + octets_len) == 0, "refused");
     expect(open_recording() == 0 && result(BTPU_OPENED_FRAMES) == frames &&
                memcmp(areas[SIZES].at, sizes, frames * sizeof sizes[0]) == 0,
            "recorded frames");
     expect(play(UINT64_MAX, 0, NEVER) == 0, "refused");
-    expect_placed(LIST(uint16_t, LENGTHS), (size_t)result(BTPU_PLAYED_COUNT),
-                  areas[LONG_OUTPUT].at, (size_t)result(BTPU_PLAYED_OCTETS));
-    start_receiver();
+    expect_bundles(&arrived, LIST(uint16_t, LENGTHS), (size_t)result(BTPU_PLAYED_COUNT),
+                   areas[LONG_OUTPUT].at, (size_t)result(BTPU_PLAYED_OCTETS));
+}
+
+/* What is placed arrives, frame by frame and from a recording; then with losses and damage. */
+static void round_of_link(void)
+{
+    static const size_t edges[] = {128, 129, 512, 2047, 2048};
+    static uint8_t frame[BTPU_MAX_FRAME];
+    size_t size = once_in(2) ? PICK(edges) : within(128, 2048);
+    enum draft draft = any_draft();
+    send_bundles(draft, size);
+    take_singly(draft);
+    expect_bundles(&placed, arrived.lengths, arrived.count, arrived.joined, arrived.octets);
+    arrived.count = arrived.octets = 0;
+    start_receiver(draft);
+    take_frames(&arrived);
+    expect_bundles(&placed, arrived.lengths, arrived.count, arrived.joined, arrived.octets);
+    expect_played_as_taken();
+    if (draft == DRAFT_02)
+        expect_bundles(&placed, arrived.lengths, arrived.count, arrived.joined, arrived.octets);
+    start_receiver(draft);
     for (size_t n = 0; n < frames; n++) {
         size_t k = below(frames);
         memcpy(frame, octets + k * size, size);
@@ -646,10 +687,10 @@ static void round_of_frames(void)
     static uint32_t first_number;
     if (once_in(8)) {
         first_number = (uint32_t)draw();
-        start_receiver();
+        start_receiver(any_draft());
     }
     for (size_t n = within(1, 12); n > 0; n--) {
-        size_t length = make_frame(frame, first_number);
+        size_t length = make_frame(frame, first_number, draft_of_frames());
         if (once_in(4))
             receive(receiver, 1, frame, length, once_in(4) ? PICK(far) : below(length + 2));
         else
@@ -665,7 +706,7 @@ static void round_of_bursts(void)
     static uint8_t frame[LONGEST_FRAME], image[BTPU_RECEIVER_IMAGE];
     frames = octets_len = 0;
     for (size_t n = once_in(2) ? PICK(counts) : below(12); n > 0; n--) {
-        size_t length = make_frame(frame, 7);
+        size_t length = make_frame(frame, 7, draft_of_frames());
         if (octets_len + length <= BTPU_RECORDED_OCTETS)
             add_frame(frame, length);
     }
@@ -690,7 +731,7 @@ static void round_of_images(void)
     size_t from = once_in(2) ? 0 : 8 + 196 * below(16);
     damage(image + from, once_in(2) ? 12 : sizeof image - from);
     int sound = receiver_is_sound(image);
-    size_t length = make_frame(frame, (uint32_t)draw());
+    size_t length = make_frame(frame, (uint32_t)draw(), draft_of_frames());
     receive(image, sound, frame, length, 0);
 
     static const enum function sending[] = {PLACE, CANCEL, FLUSH};
@@ -713,8 +754,8 @@ static void round_of_starts(void)
     uint32_t first_number = (uint32_t)draw();
     size_t length = within(1, 4096);
     frames = octets_len = 0;
-    start_sender(PICK(outside), first_number);
-    start_sender(within(128, 2048), first_number);
+    start_sender(any_draft(), PICK(outside), first_number);
+    start_sender(any_draft(), within(128, 2048), first_number);
     for (size_t n = below(4); n > 0; n--)
         sent(PLACE, any_octets(length), length);
 }
@@ -726,7 +767,7 @@ static void round_of_recordings(void)
     static uint8_t frame[LONGEST_FRAME];
     frames = octets_len = 0;
     for (size_t n = below(once_in(10) ? BTPU_RECORDED_FRAMES : 12); n > 0; n--) {
-        size_t length = make_frame(frame, 7);
+        size_t length = make_frame(frame, 7, once_in(8) ? DRAFT_00 : DRAFT_02);
         if (length > 0 && length <= BTPU_MAX_FRAME && octets_len + length <= BTPU_RECORDED_OCTETS)
             add_frame(frame, length);
     }
@@ -766,7 +807,7 @@ int main(int count, char **arguments)
     seed = count > 2 ? strtoull(arguments[2], NULL, 10) : 1;
     random_state = seed;
     reserve_areas();
-    start_receiver();
+    start_receiver(DRAFT_02);
     round_of_starts();
     for (size_t n = 0; n < LEAST_ROUNDS || seconds_now() < end; n++)
         PICK(rounds)();

@@ -18,9 +18,12 @@
 #define NOISE (64 * PAGE)
 #define NUMBERS 25 /* one more than the greatest number of a refusal */
 
+/* As an image says it. */
+enum draft { DRAFT_02, DRAFT_00, DRAFTS };
+
 enum function {
-    RECEIVER_START, RECEIVER_CHECK, RECEIVE, RECEIVE_BURST, SENDER_START, SENDER_CHECK, PLACE,
-    CANCEL, FLUSH, RECORD, RECORDING_OPEN, PLAY, FUNCTIONS
+    RECEIVER_START, RECEIVER_START_00, RECEIVER_CHECK, RECEIVE, RECEIVE_BURST, SENDER_START,
+    SENDER_START_00, SENDER_CHECK, PLACE, CANCEL, FLUSH, RECORD, RECORDING_OPEN, PLAY, FUNCTIONS
 };
 
 /* What is lent. A pool of the right length has an area of its own, and stays where it is. */
@@ -30,29 +33,40 @@ enum lent {
 };
 
 #define BIT(number) (UINT32_C(1) << (number))
+#define NEW BIT(DRAFT_02)
+#define OLD BIT(DRAFT_00)
+#define BY_IMAGE (NEW | OLD)
 
-/* The refusals that the header lists, and what comes with a length and so may be NULL. */
+/* The refusals that the header lists, what comes with a length and so may be NULL, the drafts, and
+   where the image says its draft. */
 static const struct {
     const char *name;
-    uint32_t refusals, lengths;
+    uint32_t refusals, lengths, drafts;
+    size_t draft_at;
 } functions[FUNCTIONS] = {
-    {"btpu_receiver_start", 0, 0},
-    {"btpu_receiver_check", BIT(1), 0},
+    {"btpu_receiver_start", 0, 0, NEW, 0},
+    {"btpu_receiver_start_00", 0, 0, OLD, 0},
+    {"btpu_receiver_check", BIT(1), 0, BY_IMAGE, BTPU_RECEIVER_DRAFT},
     {"btpu_receive", BIT(1) | BIT(2) | BIT(3) | BIT(4) | BIT(6) | BIT(7) | BIT(8) | BIT(9),
-     BIT(OTHER_POOL) | BIT(FRAME) | BIT(OUTPUT)},
+     BIT(OTHER_POOL) | BIT(FRAME) | BIT(OUTPUT), BY_IMAGE, BTPU_RECEIVER_DRAFT},
     {"btpu_receive_burst", BIT(1) | BIT(2) | BIT(3) | BIT(9) | BIT(19),
-     BIT(OTHER_POOL) | BIT(SIZES) | BIT(OCTETS) | BIT(LONG_OUTPUT)},
-    {"btpu_sender_start", BIT(14), 0},
-    {"btpu_sender_check", BIT(1), 0},
-    {"btpu_place", BIT(1) | BIT(10) | BIT(11) | BIT(12), BIT(BUNDLE) | BIT(FRAME_BUFFER)},
-    {"btpu_cancel", BIT(1) | BIT(10) | BIT(13), BIT(FRAME_BUFFER)},
-    {"btpu_flush", BIT(1) | BIT(10), BIT(FRAME_BUFFER)},
+     BIT(OTHER_POOL) | BIT(SIZES) | BIT(OCTETS) | BIT(LONG_OUTPUT), BY_IMAGE,
+     BTPU_RECEIVER_DRAFT},
+    {"btpu_sender_start", BIT(14), 0, NEW, 0},
+    {"btpu_sender_start_00", BIT(14), 0, OLD, 0},
+    {"btpu_sender_check", BIT(1), 0, BY_IMAGE, BTPU_SENDER_DRAFT},
+    {"btpu_place", BIT(1) | BIT(10) | BIT(11) | BIT(12), BIT(BUNDLE) | BIT(FRAME_BUFFER),
+     BY_IMAGE, BTPU_SENDER_DRAFT},
+    {"btpu_cancel", BIT(1) | BIT(10) | BIT(13), BIT(FRAME_BUFFER), BY_IMAGE, BTPU_SENDER_DRAFT},
+    {"btpu_flush", BIT(1) | BIT(10), BIT(FRAME_BUFFER), BY_IMAGE, BTPU_SENDER_DRAFT},
     {"btpu_record", BIT(17) | BIT(18) | BIT(19) | BIT(24),
-     BIT(SIZES) | BIT(OCTETS) | BIT(LONG_OUTPUT)},
-    {"btpu_recording_open", BIT(16) | BIT(17) | BIT(18) | BIT(19) | BIT(20), BIT(RECORDING)},
+     BIT(SIZES) | BIT(OCTETS) | BIT(LONG_OUTPUT), NEW, 0},
+    {"btpu_recording_open", BIT(16) | BIT(17) | BIT(18) | BIT(19) | BIT(20), BIT(RECORDING), NEW,
+     0},
     {"btpu_play", BIT(2) | BIT(16) | BIT(17) | BIT(18) | BIT(19) | BIT(20) | BIT(24),
      BIT(RECORDING) | BIT(OTHER_POOL) | BIT(LONG_OUTPUT) | BIT(LENGTHS) | BIT(PLACES) |
-         BIT(REASONS)},
+         BIT(REASONS),
+     NEW, 0},
 };
 
 struct area {
@@ -84,18 +98,20 @@ static struct area areas[AREAS] = {
     {.name = "result", .room = PAGE},
 };
 
-static enum function now; /* the function that is called */
+static enum function now;    /* the function that is called */
+static enum draft draft_now; /* of the state that it is called with */
 static uint64_t seed, calls;
 static uint32_t refused_at; /* the place of the last call's refusal */
-static uint64_t reached[FUNCTIONS][NUMBERS]; /* by refusal; entry 0: carried out */
+static uint64_t reached[DRAFTS][FUNCTIONS][NUMBERS]; /* by refusal; entry 0: carried out */
 static uint32_t null_lent[FUNCTIONS];
 static uint8_t noise[NOISE];
 
 static void fail(const char *what, const char *name)
 {
     fflush(stdout);
-    fprintf(stderr, "seed %llu, call %llu, %s: %s %s\n", (unsigned long long)seed,
-            (unsigned long long)calls, functions[now].name, what, name);
+    fprintf(stderr, "seed %llu, call %llu, %s, draft %s: %s %s\n", (unsigned long long)seed,
+            (unsigned long long)calls, functions[now].name,
+            draft_now == DRAFT_00 ? "00" : "02", what, name);
     _exit(1);
 }
 
@@ -270,9 +286,18 @@ static uint64_t result(size_t entry)
 
 /* ---- before and after each call */
 
+/* The draft of a call: the function's, or what the image says; where it says none, it is refused. */
+static enum draft draft_of_call(enum function function)
+{
+    if (functions[function].drafts != BY_IMAGE)
+        return functions[function].drafts == OLD ? DRAFT_00 : DRAFT_02;
+    return areas[STATE].at[functions[function].draft_at] == DRAFT_00 ? DRAFT_00 : DRAFT_02;
+}
+
 static void enter(enum function function)
 {
     now = function;
+    draft_now = draft_of_call(function);
     calls++;
     for (size_t k = 0; k < AREAS; k++)
         if (areas[k].is_lent && areas[k].read_only)
@@ -293,6 +318,13 @@ static void take_back(struct area *area, int all_stays)
     expect_same(area, area->from + area->length, area->room);
 }
 
+/* The refusals that a function may give in a draft. */
+static uint32_t listed(enum function function, enum draft draft)
+{
+    uint32_t refusals = functions[function].refusals;
+    return draft == DRAFT_00 ? refusals & ~BIT(BTPU_REFUSED_HINTS) : refusals;
+}
+
 /* The number of the refusal that a call returned, or 0. */
 static uint32_t leave(uint32_t returned)
 {
@@ -305,13 +337,13 @@ static uint32_t leave(uint32_t returned)
             null_lent[now] |= BIT(k);
         take_back(&areas[k], number != 0);
     }
-    expect(number == 0 || (number < NUMBERS && (functions[now].refusals & BIT(number)) != 0),
+    expect(number == 0 || (number < NUMBERS && (listed(now, draft_now) & BIT(number)) != 0),
            "a refusal that the header does not list");
     if (number >= 4 && number <= 8)
         expect(refused_at < areas[FRAME].length, "place behind the frame");
     else
         expect(refused_at == 0, "place without a bad message");
-    reached[now][number]++;
+    reached[draft_now][now][number]++;
     return number;
 }
 
@@ -319,26 +351,44 @@ static uint32_t leave(uint32_t returned)
 
 static void expect_reached(void)
 {
-    expect(reached[now][0] != 0, "never carried out");
-    for (uint32_t number = 1; number < NUMBERS; number++)
-        expect((functions[now].refusals & BIT(number)) == 0 || reached[now][number] != 0,
-               "a refusal was not reached");
+    for (draft_now = DRAFT_02; draft_now < DRAFTS; draft_now++) {
+        if ((functions[now].drafts & BIT(draft_now)) == 0)
+            continue;
+        expect(reached[draft_now][now][0] != 0, "never carried out");
+        for (uint32_t number = 1; number < NUMBERS; number++)
+            expect((listed(now, draft_now) & BIT(number)) == 0 ||
+                       reached[draft_now][now][number] != 0,
+                   "a refusal was not reached");
+    }
     for (size_t k = 0; k < AREAS; k++)
         if ((functions[now].lengths & ~null_lent[now] & BIT(k)) != 0)
             fail("NULL was not reached for the", areas[k].name);
+}
+
+/* Prints a function's calls, by draft where the image says it. */
+static void report_draft(enum draft draft)
+{
+    const uint64_t *counts = reached[draft][now];
+    uint64_t sum = 0;
+    for (size_t number = 0; number < NUMBERS; number++)
+        sum += counts[number];
+    if (functions[now].drafts == BY_IMAGE)
+        printf(" draft %s:", draft == DRAFT_00 ? "00" : "02");
+    printf(" %llu calls, refused", (unsigned long long)sum);
+    for (uint32_t number = 1; number < NUMBERS; number++)
+        if ((listed(now, draft) & BIT(number)) != 0)
+            printf(" %u: %llu", (unsigned)number, (unsigned long long)counts[number]);
+    printf(";");
 }
 
 /* Prints a line for each function; fails if something was not reached. */
 static void report(void)
 {
     for (now = RECEIVER_START; now < FUNCTIONS; now++) {
-        uint64_t sum = 0;
-        for (size_t number = 0; number < NUMBERS; number++)
-            sum += reached[now][number];
-        printf("%s: %llu calls; refused", functions[now].name, (unsigned long long)sum);
-        for (uint32_t number = 1; number < NUMBERS; number++)
-            if ((functions[now].refusals & BIT(number)) != 0)
-                printf(" %u: %llu", (unsigned)number, (unsigned long long)reached[now][number]);
+        printf("%s:", functions[now].name);
+        for (enum draft draft = DRAFT_02; draft < DRAFTS; draft++)
+            if ((functions[now].drafts & BIT(draft)) != 0)
+                report_draft(draft);
         printf("\n");
         expect_reached();
     }

@@ -3,7 +3,7 @@
 use btpu::raw::{RECEIVER_IMAGE, SENDER_IMAGE};
 use harness::generate::{self, SenderEntries};
 use harness::model::receiver::{distance, Distance, State};
-use harness::model::sender;
+use harness::model::{sender, Draft};
 use harness::random::Random;
 
 #[test]
@@ -26,13 +26,18 @@ fn window_table() {
 #[test]
 fn receiver_images() {
     let mut fresh = [1; RECEIVER_IMAGE];
-    State::start().encode(&mut fresh);
+    State::start(Draft::D02).encode(&mut fresh);
     assert_eq!(fresh, [0; RECEIVER_IMAGE]);
+    State::start(Draft::D00).encode(&mut fresh);
+    assert_eq!(fresh[..4], [0, 0, 1, 0]);
+    assert_eq!(fresh[4..], [0; RECEIVER_IMAGE - 4]);
     let mut random = Random::new(3);
-    for _ in 0..2_000 {
-        let image = generate::sound_receiver(&mut random);
+    for round in 0..4_000 {
+        let draft = Draft::BOTH[round % 2];
+        let image = generate::sound_receiver(&mut random, draft);
         let state = State::decode(&image).expect("an image of a state");
         assert!(state.is_sound());
+        assert_eq!(state.draft, draft);
         let mut again = [0xff; RECEIVER_IMAGE];
         state.encode(&mut again);
         assert!(again == image);
@@ -42,14 +47,16 @@ fn receiver_images() {
 #[test]
 fn sender_images() {
     let mut random = Random::new(4);
-    for round in 0..2_000 {
+    for round in 0..4_000 {
+        let draft = Draft::BOTH[round / 2 % 2];
         let entries = if round % 2 == 0 {
-            SenderEntries::idle(&mut random)
+            SenderEntries::idle(&mut random, draft)
         } else {
-            SenderEntries::begun(&mut random)
+            SenderEntries::begun(&mut random, draft)
         };
         let state = sender::State::decode(&entries.image()).expect("an image of a state");
         assert!(state.is_sound());
+        assert_eq!(state.draft, draft);
         assert_eq!(state.begun.is_some(), round % 2 == 1);
         let mut again = [0xff; SENDER_IMAGE];
         state.encode(&mut again);

@@ -15,7 +15,9 @@
 #define REFUSED 2
 
 static uint8_t board[BTPU_RECEIVER_IMAGE];
+static uint8_t board_00[BTPU_RECEIVER_IMAGE];
 static uint8_t sender[BTPU_SENDER_IMAGE];
+static uint8_t sender_00[BTPU_SENDER_IMAGE];
 static uint8_t pool[BTPU_POOL];
 static uint8_t frame[FRAME_SIZE];
 static uint8_t bundle[BTPU_MAX_BUNDLE];
@@ -61,6 +63,12 @@ static void *start_receiver(void *unused)
     return unused;
 }
 
+static void *start_receiver_00(void *unused)
+{
+    expect(btpu_receiver_start_00(board_00) == 0, "receiver_start_00");
+    return unused;
+}
+
 static void *check_receiver(void *unused)
 {
     expect(btpu_receiver_check(board) == 0, "receiver_check");
@@ -88,6 +96,29 @@ static void *receive(void *unused)
     return unused;
 }
 
+/* In draft 00: a bundle, a transfer whose start comes last, and a length past the frame. */
+static void *receive_00(void *unused)
+{
+    static const uint8_t good[] = {0x02, 0, 0, 1, 0x41,
+                                   0x04, 0, 0, 9, 0, 0, 0, 5, 0, 0, 0, 0, 0x43,
+                                   0x03, 0, 0, 9, 0, 0, 0, 5, 0, 0, 0, 1, 0x42};
+    static const uint8_t hinted[] = {0x02, 0x80, 0, 2, 2, 0};
+    const uint64_t ends[] = {5, sizeof good};
+    uint64_t next = 0;
+    for (size_t k = 0; k < 2; k++) {
+        expect(btpu_receive(board_00, pool, sizeof pool, good, sizeof good, next, output,
+                            sizeof output, result) == 0 &&
+                   result[BTPU_ANSWER] == BTPU_BUNDLE && result[BTPU_PLACE] == ends[k],
+               "a bundle of draft 00");
+        next = result[BTPU_PLACE];
+    }
+    expect(result[BTPU_LENGTH] == 2 && output[0] == 0x42 && output[1] == 0x43, "joined falling");
+    expect(btpu_receive(board_00, pool, sizeof pool, hinted, sizeof hinted, 0, output,
+                        sizeof output, result) == BTPU_REFUSED_LENGTH,
+           "a length of draft 00");
+    return unused;
+}
+
 static void *receive_burst(void *unused)
 {
     static uint64_t numbers[BTPU_BURST_BUNDLES], taken[BTPU_BURST_RESULT];
@@ -107,6 +138,12 @@ static void *start_sender(void *unused)
     return unused;
 }
 
+static void *start_sender_00(void *unused)
+{
+    expect(btpu_sender_start_00(sender_00, FRAME_SIZE, 0) == 0, "sender_start_00");
+    return unused;
+}
+
 static void *check_sender(void *unused)
 {
     expect(btpu_sender_check(sender) == 0, "sender_check");
@@ -116,6 +153,14 @@ static void *check_sender(void *unused)
 static void *place(void *unused)
 {
     expect(btpu_place(sender, bundle, sizeof bundle, frame, sizeof frame, result) == 0, "place");
+    return unused;
+}
+
+static void *place_00(void *unused)
+{
+    expect(btpu_place(sender_00, bundle, sizeof bundle, frame, sizeof frame, result) == 0 &&
+               sender_00[BTPU_SENDER_BEGUN] == 1,
+           "place in draft 00");
     return unused;
 }
 
@@ -197,8 +242,12 @@ int main(void)
     } calls[] = {
         {"receiver_start", start_receiver, BTPU_STACK}, {"receive", receive, BTPU_STACK},
         {"receiver_check", check_receiver, BTPU_STACK}, {"receive_burst", receive_burst, BTPU_STACK},
+        {"receiver_start_00", start_receiver_00, BTPU_STACK},
+        {"receive, draft 00", receive_00, BTPU_STACK},
         {"sender_start", start_sender, BTPU_STACK},
         {"place", place, BTPU_STACK},                   {"sender_check", check_sender, BTPU_STACK},
+        {"sender_start_00", start_sender_00, BTPU_STACK},
+        {"place, draft 00", place_00, BTPU_STACK},
         {"cancel", cancel, BTPU_STACK},                 {"flush", flush, BTPU_STACK},
         {"record", record, BTPU_STACK},                 {"recording_open", open_recording, BTPU_STACK},
         {"play", play, BTPU_PLAY_STACK},

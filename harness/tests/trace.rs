@@ -111,6 +111,6 @@ fn other_names_are_not_declared() {
     let text = text_of("rows/Message");
     assert!(declares(&text, "step"));
     assert!(!declares(&text, "stepp"));
-    assert!(!declares(&text, "draft"), "a word of a comment");
+    assert!(!declares(&text, "protocol"), "a word of a comment");
     assert!(!declares(&text, "soundRow"), "what another file declares");
 }

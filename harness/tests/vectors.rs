@@ -2,6 +2,7 @@
 
 use btpu::raw::{NO_NUMBER, RECEIVER_IMAGE, SENDER_IMAGE};
 use harness::json::Json;
+use harness::model::Draft;
 use harness::sha256::sha256;
 use harness::side::{Exported, Model, Side};
 
@@ -213,7 +214,7 @@ fn receiver_vectors<S: Side>() -> (usize, usize, Vec<&'static str>) {
             Json::Text(text) => {
                 assert_eq!(text, "start");
                 let mut state = [0xa5; RECEIVER_IMAGE];
-                assert_eq!(S::receiver_start(&mut state), 0);
+                assert_eq!(S::receiver_start(Draft::D02, &mut state), 0);
                 state
             }
             state => match receiver_image(state) {
@@ -279,7 +280,8 @@ fn run_sender<S: Side>(line: &Json, digest: &mut Digest) {
         None => state = sender_image(line.at("state")),
         Some(start) => {
             let first = start.at("first").unsigned() as u32;
-            let returned = S::sender_start(&mut state, start.at("P").unsigned(), first);
+            let size = start.at("P").unsigned();
+            let returned = S::sender_start(Draft::D02, &mut state, size, first);
             if start.at("answer").text() == "refused" {
                 assert_eq!(u64::from(returned), start.at("no").unsigned(), "{id}");
                 assert_eq!(state, [0xa5; SENDER_IMAGE], "{id}: state changed");

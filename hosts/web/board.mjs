@@ -4,12 +4,13 @@
  *
  *     board.html?station=NAME      the timetable to show; the last one received if not given
  *               &board=NAME        the name under which this board keeps its state: several boards in one browser need different ones
+ *               &draft=00          the draft of the frames that it takes: 00 or 02; 02 if not given
  *               &demo              plays the sample
  *               &now=HH:MM         stops the clock, to try things out
  *               &today=YYYY-MM-DD  and the day
  */
 import { Receiver, Recorder, RefusalError, TrapError, load } from './btpu.mjs';
-import { element, departureRows, fileBeside, make, many } from './dom.mjs';
+import { element, departureRows, fileBeside, make, many, nameIn, sampleOf } from './dom.mjs';
 import { readHex } from './frames.mjs';
 import { NOTHING, departuresFrom, showing, tableOf, textOf } from './timetable.mjs';
 
@@ -35,6 +36,8 @@ const PAUSE = 100;
 
 const query = new URLSearchParams(location.search);
 const key = `btpu-board ${query.get('board') ?? ''}`.trim();
+/** Any other than 00 and 02 makes the board fail, in words. */
+const draft = /** @type {import('./btpu.mjs').Draft} */ (query.get('draft') ?? '02');
 
 /** @type {WebAssembly.Module} */ let module;
 /** @type {Receiver} */ let receiver;
@@ -141,10 +144,23 @@ async function takeUp() {
     const kept = JSON.parse(text.slice(head.length));
     receiver.restore({ image: fromBase64(kept.image), pool: fromBase64(kept.pool) });
     record = kept.record;
+    if (receiver.draft !== draft) await changeDraft();
   } catch {
-    receiver = await Receiver.create(module);
+    await begin();
     troubles.set('kept', 'What was kept could not be read: this board began anew.');
   }
+}
+
+/** A fresh receiver. */
+async function begin() {
+  receiver = await Receiver.create({ draft }, module);
+}
+
+/** What was kept is of another draft than the address asks for now: the receiver begins anew, and what is shown stays. */
+async function changeDraft() {
+  const dropped = `What was on the way is dropped: ${many(onTheWay().length, 'transfer')}.`, before = receiver.draft;
+  await begin();
+  troubles.set('kept', `This board was set to draft ${before} before, and is set to draft ${draft} now. ${dropped}`);
 }
 
 // Frames are taken in order. Those that wait are taken in one go, then all is stored and drawn once.
@@ -243,7 +259,7 @@ async function take(frame) {
 
 /** Another receiver, which goes on from before the frame that was taken last. */
 async function renew() {
-  const next = await Receiver.create(module);
+  const next = await Receiver.create({ draft }, module);
   next.restore(before);
   receiver = next;
 }
@@ -387,6 +403,7 @@ function drawSetup(station) {
     'Frames lost by a trap': record.lost,
     'Bundles handed out': record.bundles,
     'On the way': `${many(open.length, 'transfer')}, ${many(pieces, 'piece')} here`,
+    Draft: draft,
   };
   const lines = Object.entries(counts).flatMap(([name, count]) => [make('dt', '', name), make('dd', '', count.toLocaleString('en'))]);
   element('counts').replaceChildren(...lines);
@@ -402,7 +419,9 @@ function drawSetup(station) {
 async function framesOf(octets) {
   const recorder = await Recorder.create(module);
   try {
-    return { frames: recorder.open(octets), wrong: '' };
+    const frames = recorder.open(octets);
+    if (draft === '02') return { frames, wrong: '' };
+    return { frames: [], wrong: `The file was not taken: a recording is draft 02, and this board is set to draft ${draft}.` };
   } catch (e) {
     if (!(e instanceof RefusalError)) throw e;
     const text = textOf(octets);
@@ -441,7 +460,7 @@ async function takeFile() {
 async function playSample() {
   element('demo').disabled = true;
   try {
-    const { frames } = readHex(new TextDecoder().decode(await fileBeside('sample.hex')));
+    const { frames } = readHex(await sampleOf(draft));
     troubles.delete('file');
     for (const frame of frames) {
       await receive(frame);
@@ -474,7 +493,7 @@ function askToForget() {
 }
 
 async function forget() {
-  receiver = await Receiver.create(module);
+  await begin();
   record = newRecord();
   troubles.clear();
 }
@@ -508,18 +527,18 @@ function listen() {
   setInterval(tick, 1000);
 }
 
-/** The ways of the host and of the desk in. */
+/** The ways of the host and of the desk in; the desk's frames are those of this board's draft. */
 function openWays() {
   Object.assign(window, { board: { receive } });
   if (typeof BroadcastChannel === 'undefined') return;
-  new BroadcastChannel('btpu-frames').addEventListener('message', ({ data }) => {
+  new BroadcastChannel(nameIn('btpu-frames', draft)).addEventListener('message', ({ data }) => {
     if (data instanceof Uint8Array) receive(data).catch(() => {}); // the status tells of it
   });
 }
 
 try {
   module = await load(await fileBeside('btpu.wasm'));
-  receiver = await Receiver.create(module);
+  await begin();
   await takeUp();
   draw();
   listen();

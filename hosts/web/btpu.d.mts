@@ -5,6 +5,9 @@ export type Octets = Uint8Array | ArrayBufferView | ArrayBuffer;
 /** The module, or where it is. */
 export type Source = string | URL | Response | BufferSource | WebAssembly.Module | Promise<Response | BufferSource | WebAssembly.Module>;
 
+/** A draft of the protocol: draft-ietf-dtn-btpu-00 or draft-ietf-dtn-btpu-02. */
+export type Draft = '00' | '02';
+
 /** A bundle handed out. */
 export interface Bundle {
   /** Its transfer number; null if it came in one message, outside of any transfer. */
@@ -39,7 +42,7 @@ export interface Row {
   /** The transfer that the row stands for; null as long as no transfer number is known. */
   number: number | null;
   phase: Phase;
-  /** The index of the last piece, if it is held. */
+  /** The highest index, if its piece is held: in draft 02 that of the end, in draft 00 that of the start. */
   last: number | null;
   /** The pieces held, in order of arrival. */
   pieces: { index: number; length: number }[];
@@ -71,11 +74,18 @@ export interface SavedSender {
   frame: Uint8Array;
 }
 
+export interface ReceiverStart {
+  /** '02' if not given. */
+  draft?: Draft;
+}
+
 export interface SenderStart {
   /** 128 to 2,048 octets. */
   frameSize: number;
   /** The number of the first transfer. */
   firstNumber: number;
+  /** '02' if not given. */
+  draft?: Draft;
 }
 
 export const SIZES: Readonly<{
@@ -113,9 +123,10 @@ export class TrapError extends Error {
 
 /** Takes frames, in any order and with losses, and hands bundles out. */
 export class Receiver {
-  static create(source?: Source): Promise<Receiver>;
-  constructor(instance: WebAssembly.Instance);
+  static create(start?: ReceiverStart | Source, source?: Source): Promise<Receiver>;
+  constructor(instance: WebAssembly.Instance, start?: ReceiverStart);
   get broken(): boolean;
+  get draft(): Draft;
   restart(): void;
   receive(frame: Octets): { bundles: Bundle[]; refusal: Refusal | null };
   receiveAll(frames: Iterable<Octets>): Received;
@@ -129,6 +140,7 @@ export class Sender {
   static create(start: SenderStart, source?: Source): Promise<Sender>;
   constructor(instance: WebAssembly.Instance, start: SenderStart);
   get broken(): boolean;
+  get draft(): Draft;
   get frameSize(): number;
   get fill(): number;
   get nextNumber(): number;

@@ -8,6 +8,9 @@
  *     const { bundles, refusal } = receiver.receive(frame);   // a frame: a Uint8Array of 1 to 2,048 octets
  *     const all = receiver.receiveAll(frames);                // the same for many frames, in fewer calls of the module
  *
+ * Receivers and senders are of draft 02 of the protocol, or of draft 00 where they are made with `draft: '00'`. A frame does not say of
+ * which draft it is: a receiver takes every frame for one of its own.
+ *
  * Each receiver and each sender has an instance of the module, and so memory, of its own: a trap in one touches no other. The
  * module imports nothing and its memory never grows, so no call comes back into this file and no view of the memory goes stale.
  * @module
@@ -15,6 +18,9 @@
 
 /** @typedef {import('./btpu.mjs').Octets} Octets */
 /** @typedef {import('./btpu.mjs').Source} Source */
+/** @typedef {import('./btpu.mjs').Draft} Draft */
+/** @typedef {import('./btpu.mjs').ReceiverStart} ReceiverStart */
+/** @typedef {import('./btpu.mjs').SenderStart} SenderStart */
 /** @typedef {import('./btpu.mjs').Bundle} Bundle */
 /** @typedef {import('./btpu.mjs').Refusal} Refusal */
 /** @typedef {{ at: number, octets: Uint8Array, pointer: number | bigint }} Lent octets of the module's memory */
@@ -36,10 +42,12 @@ export const SIZES = Object.freeze({
 });
 
 const EXPORTS = [
-  'btpu_receiver_start', 'btpu_receiver_check', 'btpu_receive', 'btpu_receive_burst',
-  'btpu_sender_start', 'btpu_sender_check', 'btpu_place', 'btpu_cancel', 'btpu_flush',
+  'btpu_receiver_start', 'btpu_receiver_start_00', 'btpu_receiver_check', 'btpu_receive', 'btpu_receive_burst',
+  'btpu_sender_start', 'btpu_sender_start_00', 'btpu_sender_check', 'btpu_place', 'btpu_cancel', 'btpu_flush',
   'btpu_record', 'btpu_recording_open', 'btpu_play',
 ];
+/** The octets of the images that tell the draft: 1 for draft 00, 0 for draft 02. */
+const RECEIVER_DRAFT = 2, SENDER_DRAFT = 9;
 const FINISHED = 0;
 const NO_NUMBER = 2 ** 32;
 const PLACED = 0, PLACED_AND_READY = 1, READY = 2;
@@ -149,6 +157,31 @@ export async function load(source) {
 
 /** @param {Source} [source] */
 const instantiate = async (source) => WebAssembly.instantiate(await load(source));
+
+/**
+ * The name of the function that starts a receiver or a sender of a draft.
+ * @param {'receiver' | 'sender'} which
+ * @param {Draft} draft
+ */
+function startOf(which, draft) {
+  if (draft !== '00' && draft !== '02') throw new RangeError("a draft is '00' or '02'");
+  return `btpu_${which}_start${draft === '00' ? '_00' : ''}`;
+}
+
+/**
+ * Whether this is what a receiver is set to, and no source: no source is a plain object.
+ * @param {unknown} value
+ * @returns {value is ReceiverStart}
+ */
+const isStart = (value) => Object.prototype.toString.call(value) === '[object Object]';
+
+/**
+ * The draft of a sound image.
+ * @param {Lent} image
+ * @param {number} at
+ * @returns {Draft}
+ */
+const draftOf = (image, at) => (image.octets[at] === 1 ? '00' : '02');
 
 /**
  * Octets as a Uint8Array; anything else is an error, and no empty frame.
@@ -348,15 +381,22 @@ export class Receiver {
   /** @type {Record<'sizes' | 'octets' | 'output' | 'lengths' | 'numbers' | 'places' | 'reasons', Lent>} */ #burst;
 
   /**
+   * @param {ReceiverStart | Source} [start] what the receiver is set to; may be left out before a source
    * @param {Source} [source] as for load
    * @returns {Promise<Receiver>}
    */
-  static async create(source) {
-    return new Receiver(await instantiate(source));
+  static async create(start = {}, source) {
+    if (isStart(start)) return new Receiver(await instantiate(source), start);
+    if (source !== undefined) throw new TypeError("what stands before the source is an object, as { draft: '00' }");
+    return new Receiver(await instantiate(start));
   }
 
-  /** @param {WebAssembly.Instance} instance of the module, used by nothing else */
-  constructor(instance) {
+  /**
+   * @param {WebAssembly.Instance} instance of the module, used by nothing else
+   * @param {ReceiverStart} [start]
+   */
+  constructor(instance, start = {}) {
+    const { draft = '02' } = start;
     const machine = this.#machine = new Machine(instance);
     this.#image = machine.lend(SIZES.receiverImage);
     this.#pool = machine.lend(SIZES.pool);
@@ -371,7 +411,7 @@ export class Receiver {
       places: machine.lend(4 * SIZES.burstFrames),
       reasons: machine.lend(4 * SIZES.burstFrames),
     };
-    this.restart();
+    this.#start(draft);
   }
 
   /** Whether a trap ended the use of this receiver. */
@@ -379,9 +419,19 @@ export class Receiver {
     return this.#machine.broken;
   }
 
-  /** Forgets all that was received. */
+  /** The draft of the frames that this receiver takes. */
+  get draft() {
+    return draftOf(this.#image, RECEIVER_DRAFT);
+  }
+
+  /** Forgets all that was received; the draft stays. */
   restart() {
-    this.#machine.must('btpu_receiver_start', this.#image.pointer);
+    this.#start(this.draft);
+  }
+
+  /** @param {Draft} draft */
+  #start(draft) {
+    this.#machine.must(startOf('receiver', draft), this.#image.pointer);
     this.#pool.octets.fill(0);
   }
 
@@ -487,7 +537,7 @@ export class Receiver {
   }
 
   /**
-   * Goes on from what was saved. An image that is no sound state is refused, and changes nothing.
+   * Goes on from what was saved, and with its draft. An image that is no sound state is refused, and changes nothing.
    * @param {{ image: Octets, pool: Octets }} saved
    */
   restore(saved) {
@@ -516,7 +566,7 @@ export class Sender {
   #begun = null;
 
   /**
-   * @param {{ frameSize: number, firstNumber: number }} start
+   * @param {SenderStart} start
    * @param {Source} [source] as for load
    * @returns {Promise<Sender>}
    */
@@ -526,14 +576,14 @@ export class Sender {
 
   /**
    * @param {WebAssembly.Instance} instance of the module, used by nothing else
-   * @param {{ frameSize: number, firstNumber: number }} start
+   * @param {SenderStart} start
    */
-  constructor(instance, { frameSize, firstNumber }) {
+  constructor(instance, { frameSize, firstNumber, draft = '02' }) {
     wholeNumber(frameSize, Number.MAX_SAFE_INTEGER, 'a frame size');
     wholeNumber(firstNumber, 0xffffffff, 'a transfer number');
     const machine = this.#machine = new Machine(instance);
     this.#image = machine.lend(SIZES.senderImage);
-    machine.must('btpu_sender_start', this.#image.pointer, BigInt(frameSize), firstNumber | 0);
+    machine.must(startOf('sender', draft), this.#image.pointer, BigInt(frameSize), firstNumber | 0);
     this.#frame = machine.lend(frameSize);
     this.#bundle = machine.lend(SIZES.bundle + 1);
   }
@@ -541,6 +591,11 @@ export class Sender {
   /** Whether a trap ended the use of this sender. */
   get broken() {
     return this.#machine.broken;
+  }
+
+  /** The draft of the frames that this sender fills. */
+  get draft() {
+    return draftOf(this.#image, SENDER_DRAFT);
   }
 
   get frameSize() {
@@ -618,7 +673,8 @@ export class Sender {
   }
 
   /**
-   * Goes on from what a sender of the same frame size saved. An image that is no sound state is refused, and changes nothing.
+   * Goes on from what a sender of the same frame size saved, and with its draft. An image that is no sound state is refused, and changes
+   * nothing.
    * @param {{ image: Octets, frame: Octets }} saved
    */
   restore(saved) {
@@ -647,7 +703,10 @@ export class Sender {
   }
 }
 
-/** Writes, opens and plays recordings: frames in order, at most 1,024 with at most 61,440 octets. */
+/**
+ * Writes, opens and plays recordings: frames in order, at most 1,024 with at most 61,440 octets. A recording has no draft, and a playback
+ * takes its frames for frames of draft 02.
+ */
 export class Recorder {
   /** @type {Machine} */ #machine;
   /** @type {Lent} */ #recording;
@@ -717,8 +776,8 @@ export class Recorder {
   }
 
   /**
-   * Plays a recording on a fresh receiver until `messages` messages are treated, or to its end. A run of padding counts as one
-   * message; a refused frame has none.
+   * Plays a recording on a fresh receiver of draft 02 until `messages` messages are treated, or to its end. A run of padding counts as
+   * one message; a refused frame has none.
    * @param {Octets} recording
    * @param {{ messages?: number }} [limit]
    * @returns {import('./btpu.mjs').Playback}

@@ -1,8 +1,8 @@
 // @ts-check
 // The control room's desk: frames from a file, over a link that can be made bad, into the same receiver that the boards have.
 import { Receiver, Recorder, RefusalError, Sender, load } from './btpu.mjs';
-import { departureRows, element, fileBeside, make, many } from './dom.mjs';
-import { hexOf, overLink, readHex, readingHex } from './frames.mjs';
+import { departureRows, element, fileBeside, make, many, nameIn, sampleOf } from './dom.mjs';
+import { hexOf, overLink, readHex, readingHex, writeHex } from './frames.mjs';
 import { Run } from './run.mjs';
 import { departuresFrom, tableOf, textOf } from './timetable.mjs';
 
@@ -16,14 +16,21 @@ const SLICE = 20, DRAWN = 150;
 /** The most that is drawn at once. */
 const CELLS = 512, LISTED = 100, DEPARTURES = 6, NOTICES = 3, FAULTS = 5;
 const LINK = ['lose', 'double', 'shuffle', 'damage', 'seed'];
+/** The piece with the highest index, which tells how many there are, by draft. */
+const FINAL = { '00': 'start', '02': 'last piece' };
 
 /** @type {WebAssembly.Module} */ let module;
 /** @type {Receiver} */ let receiver;
 /** @type {Uint8Array[]} */ let sent = [];
+/** Whether these frames come from a recording. */ let recorded = false;
 /** @type {import('./frames.mjs').Arrival[]} */ let arrivals = [];
 /** @type {Run} */ let run;
 /** How many octets of each arrival the board page has got. */ let passedOn = new Uint32Array(0);
-/** @type {BroadcastChannel | null} */ let channel = null;
+/**
+ * To the boards of each draft; none where there is no board to pass frames to.
+ * @type {Record<string, BroadcastChannel>}
+ */
+const channels = {};
 
 // ---- words
 
@@ -157,13 +164,27 @@ function limit() {
   return { messages: good && text !== '' ? messages : Infinity };
 }
 
+/**
+ * The draft that the desk is set to.
+ * @returns {import('./btpu.mjs').Draft}
+ */
+const chosenDraft = () => $('draft').value;
+
 /** Sends the frames over the link and begins anew. */
 async function restart() {
-  if (receiver.broken) receiver = await Receiver.create(module);
+  const draft = chosenDraft();
+  if (receiver.broken || receiver.draft !== draft) receiver = await Receiver.create({ draft }, module);
   arrivals = overLink(sent, link());
   passedOn = new Uint32Array(arrivals.length);
   run = new Run(receiver, arrivals, limit());
   halt(happened());
+}
+
+/** Sets the desk to the draft chosen and begins anew, unless the frames are those of a recording, which is draft 02. */
+function changeDraft() {
+  if (!recorded || chosenDraft() === '02') return restart();
+  $('draft').value = '02';
+  say('A recording is draft 02: the desk stays set to draft 02 until other frames are loaded.');
 }
 
 /** Sets another limit of messages; the place stays where it lies before it. */
@@ -184,7 +205,7 @@ function forward() {
   const { fate, length } = run.events[k];
   if (fate !== 'lost' && passedOn[k] < length && $('send').checked) {
     passedOn[k] = length;
-    channel?.postMessage(arrivals[k].frame.slice(0, length));
+    channels[receiver.draft]?.postMessage(arrivals[k].frame.slice(0, length));
   }
   return true;
 }
@@ -243,6 +264,7 @@ const listFaults = (items) => $('faults').replaceChildren(...items);
  */
 async function use(name, frames, faults = []) {
   sent = frames;
+  recorded = false;
   document.body.dataset.frames = frames.length > 0 ? 'some' : 'none';
   $('source').textContent = `${name}: ${many(frames.length, 'frame')}`;
   const left = faults.length - FAULTS;
@@ -251,6 +273,19 @@ async function use(name, frames, faults = []) {
     ...(left > 0 ? [make('li', '', `and ${many(left, 'line')} more`)] : []),
   ]);
   await restart();
+}
+
+/**
+ * Takes the frames of a recording, which is draft 02: the desk is set to it.
+ * @param {string} name
+ * @param {Uint8Array[]} frames
+ */
+async function useRecording(name, frames) {
+  const before = chosenDraft();
+  $('draft').value = '02';
+  await use(`Recording ${name}`, frames);
+  recorded = true;
+  if (before !== '02') say(`A recording is draft 02: the desk was set to draft ${before}, and is set to draft 02 now. ${happened()}`);
 }
 
 /**
@@ -304,7 +339,7 @@ function refuseFile(words) {
 async function useFile(name, octets, own) {
   const recording = await openRecording(octets);
   if (job !== own) return;
-  if (recording.frames !== null) return use(`Recording ${name}`, recording.frames);
+  if (recording.frames !== null) return useRecording(name, recording.frames);
   const text = textOf(octets), hex = text === null ? null : await readLines(text, own);
   if (job !== own) return;
   if (hex !== null && (hex.frames.length > 0 || hex.faults.length === 0)) return use(`Hex lines ${name}`, hex.frames, hex.faults);
@@ -336,7 +371,8 @@ function useText(name, text) {
 
 async function cut() {
   try {
-    const sender = await Sender.create({ frameSize: Number($('size').value), firstNumber: Number($('first').value) }, module);
+    const start = { frameSize: Number($('size').value), firstNumber: Number($('first').value), draft: chosenDraft() };
+    const sender = await Sender.create(start, module);
     const texts = $('texts').value.split(/^---+\s*$/m).map((/** @type {string} */ text) => text.trim()).filter(Boolean);
     const frames = texts.flatMap((/** @type {string} */ text) => sender.send(new TextEncoder().encode(text)));
     const rest = sender.flush();
@@ -349,17 +385,29 @@ async function cut() {
   }
 }
 
-/** The frames that came, as a recording to download. */
+/**
+ * @param {string} name
+ * @param {BlobPart} content
+ */
+function download(name, content) {
+  const address = URL.createObjectURL(new Blob([content], { type: 'application/octet-stream' }));
+  const anchor = /** @type {HTMLAnchorElement} */ (make('a', ''));
+  anchor.href = address;
+  anchor.download = name;
+  anchor.click();
+  setTimeout(() => URL.revokeObjectURL(address), 60000);
+}
+
+/** The frames that came, to download: as a recording; those of draft 00, as which no recording is played, as hex lines. */
 async function save() {
   const came = arrivals.filter((arrival) => !arrival.lost).map((arrival) => arrival.frame);
+  if (receiver.draft === '00') {
+    download('frames-00.hex', `# draft 00\n${writeHex(came)}`);
+    return say(`${many(came.length, 'frame')} of draft 00 saved as hex lines, since a recording is draft 02.`);
+  }
   try {
     const recording = (await Recorder.create(module)).record(came);
-    const address = URL.createObjectURL(new Blob([recording], { type: 'application/octet-stream' }));
-    const anchor = /** @type {HTMLAnchorElement} */ (make('a', ''));
-    anchor.href = address;
-    anchor.download = 'frames.recording';
-    anchor.click();
-    setTimeout(() => URL.revokeObjectURL(address), 60000);
+    download('frames.recording', recording);
     say(`${many(came.length, 'frame')} saved as a recording of ${many(recording.length, 'octet')}.`);
   } catch (e) {
     if (!(e instanceof RefusalError)) throw e;
@@ -421,6 +469,7 @@ function drawControls() {
   $('back').disabled = run.position === 0 || run.broken !== null;
   $('seek').disabled = run.length === 0 || run.broken !== null;
   $('save').disabled = run.length === 0;
+  $('save').textContent = receiver.draft === '00' ? 'Save as hex lines' : 'Save as recording';
   for (const id of LINK.slice(0, 4)) {
     const unit = id === 'shuffle' ? ' places' : ' %';
     document.querySelector(`output[for="${id}"]`)?.replaceChildren(`${$(id).value}${unit}`);
@@ -488,23 +537,26 @@ function showCell(box, cell) {
 }
 
 /**
- * The pieces of an open transfer, up to the last one or the greatest that is held.
+ * The pieces of an open transfer in the order in which they are joined, with the highest index that is known or held: in draft 02 they
+ * rise to it, in draft 00 they fall from it.
  * @param {Row} row
  * @param {Set<string>} fresh
  */
 function drawPieces({ row, last, pieces }, fresh) {
-  const lengths = new Map(pieces.map(({ index, length }) => [index, length])), end = last ?? Math.max(-1, ...lengths.keys());
-  const wide = end < 28, cells = make('div', wide ? 'cells wide' : 'cells'), missing = [];
-  for (let index = 0; index <= end; index++) {
-    const length = lengths.get(index), here = length !== undefined;
+  const lengths = new Map(pieces.map(({ index, length }) => [index, length])), highest = last ?? Math.max(-1, ...lengths.keys());
+  const wide = highest < 28, cells = make('div', wide ? 'cells wide' : 'cells'), missing = [], falling = receiver.draft === '00';
+  const final = FINAL[receiver.draft], more = last === null ? [make('span', 'more', '…')] : [];
+  for (let k = 0; k <= highest; k++) {
+    const index = falling ? highest - k : k, length = lengths.get(index), here = length !== undefined;
     const kind = `${here ? 'have' : 'miss'}${fresh.has(`${row} ${index}`) ? ' new' : ''}${index === last ? ' last' : ''}`;
     const cell = make('span', `p ${kind}`, wide ? `${index}` : '');
-    cell.title = here ? `piece ${index}: ${many(length, 'octet')}` : `piece ${index} is missing`;
+    cell.title = here ? `piece ${index}${index === last ? `, the ${final}` : ''}: ${many(length, 'octet')}` : `piece ${index} is missing`;
     if (!here) missing.push(index);
     cells.append(cell);
   }
-  if (last === null) cells.append(make('span', 'more', '…'));
-  const of = last === null ? ', the last one is not known' : ` of ${last + 1}`;
+  if (falling) cells.prepend(...more);
+  else cells.append(...more);
+  const of = last === null ? `, the ${final} is not known` : ` of ${last + 1}`;
   const lacks = missing.length === 0 ? '' : `; missing ${missing.join(', ')}`;
   cells.setAttribute('role', 'img');
   cells.setAttribute('aria-label', `${many(lengths.size, 'piece')} here${of}${lacks}`);
@@ -550,6 +602,7 @@ function drawWindow() {
   const fresh = new Set(pieces.map(({ row, index }) => `${row} ${index}`));
   $('greatest').textContent = greatest === null ? 'no transfer seen yet' : `greatest number ${greatest}`;
   $('window').tBodies[0].replaceChildren(...rows.map((row) => drawRow(row, greatest, fresh)));
+  for (const word of document.querySelectorAll('.final')) word.textContent = FINAL[receiver.draft];
 }
 
 /**
@@ -712,10 +765,11 @@ function listen() {
   on('play', 'click', play);
   on('end', 'click', toTheEnd);
   on('seek', 'input', () => seek(Number($('seek').value)));
+  on('draft', 'change', changeDraft);
   on('limit', 'change', changeLimit);
   on('station', 'change', drawBoard);
   on('time', 'input', drawBoard);
-  on('sample', 'click', async () => useText('Sample', new TextDecoder().decode(await fileBeside('sample.hex'))));
+  on('sample', 'click', async () => useText('Sample', await sampleOf(chosenDraft())));
   on('paste', 'click', () => useText('Pasted lines', $('lines').value));
   on('cut', 'click', cut);
   on('save', 'click', save);
@@ -765,7 +819,7 @@ try {
   module = await load(await fileBeside('btpu.wasm'));
   receiver = await Receiver.create(module);
   try {
-    channel = new BroadcastChannel('btpu-frames');
+    for (const draft of /** @type {const} */ (['00', '02'])) channels[draft] = new BroadcastChannel(nameIn('btpu-frames', draft));
   } catch { /* no board to pass frames to */ }
   listen();
   listenToStrip();

@@ -1,5 +1,5 @@
 // @ts-check
-/** What both pages need of the browser: elements, files, and departures as rows of a table. */
+/** What both pages need of the browser: elements, files, the channel between them, and departures as rows of a table. */
 
 /**
  * The element with an id.
@@ -28,6 +28,19 @@ export function make(name, kind, text = '') {
  * @param {string} [more]
  */
 export const many = (count, one, more = `${one}s`) => `${count.toLocaleString('en')} ${count === 1 ? one : more}`;
+
+/**
+ * The name of what there is one of for each draft; that of draft 02 is the plain one.
+ * @param {string} name
+ * @param {import('./btpu.mjs').Draft} draft
+ */
+export const nameIn = (name, draft) => (draft === '02' ? name : `${name}-${draft}`);
+
+/**
+ * The frames of the sample, as lines of hex.
+ * @param {import('./btpu.mjs').Draft} draft
+ */
+export const sampleOf = async (draft) => new TextDecoder().decode(await fileBeside(`${nameIn('sample', draft)}.hex`));
 
 /**
  * The octets of a file beside the page; a page that was packed into one file carries it.

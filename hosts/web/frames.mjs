@@ -90,7 +90,8 @@ export const hexOf = (octets, between = '') => Array.from(octets, (octet) => PAI
 export const writeHex = (frames) => frames.map((frame) => `${hexOf(frame)}\n`).join('');
 
 /**
- * Where the messages of a frame start; a run of zero octets counts as one. The frame is one that the library did not refuse.
+ * Where the messages of a frame start; a run of zero octets counts as one. The frame is one that the library did not refuse, in either
+ * draft: where draft 02 has flags, a frame of draft 00 has zero then, the upper octet of the length.
  * @param {Uint8Array} frame
  * @returns {number[]}
  */

@@ -1,4 +1,5 @@
-// Writes sample.hex, a sample of what a control room sends, cut by the library's own sender: node hosts/web/make-sample.mjs
+// Writes sample.hex and sample-00.hex, a sample of what a control room sends in draft 02 and in draft 00, cut by the library's own sender:
+// node hosts/web/make-sample.mjs
 import fs from 'node:fs';
 import { Sender } from './btpu.mjs';
 import { writeHex } from './frames.mjs';
@@ -50,36 +51,44 @@ function timetable(station, first, step, count, lines) {
 
 const octets = (text) => new TextEncoder().encode(text);
 const be32 = (x) => [x >>> 24, (x >>> 16) & 255, (x >>> 8) & 255, x & 255];
-const sender = await Sender.create({ frameSize: 128, firstNumber: 0xfffffffa });
 
 /** Bundles to their end, and the frames that they fill. */
-function sent(...texts) {
+function sent(sender, ...texts) {
   const frames = texts.flatMap((text) => sender.send(octets(text)));
   const rest = sender.flush();
   return rest === null ? frames : [...frames, rest];
 }
 
 /** So many calls of the sender for a bundle, whose transfer is then cancelled. */
-function withdrawn(text, calls) {
+function withdrawn(sender, text, calls) {
   const frames = Array.from({ length: calls }, () => sender.place(octets(text)).frame);
   sender.cancel();
   return [...frames, sender.flush()].filter((frame) => frame !== null);
 }
 
-const first = sent(MILL_BRIDGE, UPPER_VALLEY, BICYCLES, HARBOUR, LAKE_END);
-const second = sent(OLD_TOWN, LIFT, QUARRY, WEIR);
-const cancelled = withdrawn(NORTHGATE, 2);
+/** The frames of the sample. */
+async function sample(draft) {
+  const sender = await Sender.create({ frameSize: 128, firstNumber: 0xfffffffa, draft });
+  const first = sent(sender, MILL_BRIDGE, UPPER_VALLEY, BICYCLES, HARBOUR, LAKE_END);
+  const second = sent(sender, OLD_TOWN, LIFT, QUARRY, WEIR);
+  const cancelled = withdrawn(sender, NORTHGATE, 2);
 
-// Another maker's sender numbers a piece beyond 63; the next transfer number is taken by it, so ours passes it over.
-const foreign = Uint8Array.from([3, 0, 0, 8 + FOREIGN.length, ...be32(sender.nextNumber), ...be32(70), ...octets(FOREIGN)]);
-withdrawn('x'.repeat(190), 1);
-// A newer one sets a reserved flag bit, which boards pass over.
-const flagged = Uint8Array.from([2, 0x10, 0, COUNTER.length, ...octets(COUNTER)]);
-// And a frame is cut short on the way: boards refuse it.
-const short = second[0].slice(0, 90);
+  // Another maker's sender numbers a segment beyond 63; the next transfer number is taken by it, so ours passes it over.
+  const segment = draft === '00' ? 4 : 3;
+  const foreign = Uint8Array.from([segment, 0, 0, 8 + FOREIGN.length, ...be32(sender.nextNumber), ...be32(70), ...octets(FOREIGN)]);
+  withdrawn(sender, 'x'.repeat(190), 1);
+  // A newer one sets a reserved flag bit, which boards of draft 02 pass over; draft 00 has no flags, and its boards refuse the frame.
+  const flagged = Uint8Array.from([2, 0x10, 0, COUNTER.length, ...octets(COUNTER)]);
+  // And a frame is cut short on the way: boards refuse it.
+  const short = second[0].slice(0, 90);
 
-const third = sent(NORTHGATE, SECOND_EDITION, TREE);
-const frames = [...first, ...second, ...first, ...cancelled, foreign, flagged, short, ...second, ...third, ...third];
-const title = `# A sample of what a control room sends: ${frames.length} frames of at most 128 octets, one a line\n`;
-fs.writeFileSync(new URL('sample.hex', import.meta.url), title + writeHex(frames));
-console.log(`sample.hex: ${frames.length} frames`);
+  const third = sent(sender, NORTHGATE, SECOND_EDITION, TREE);
+  return [...first, ...second, ...first, ...cancelled, foreign, flagged, short, ...second, ...third, ...third];
+}
+
+for (const [draft, name, which] of [['02', 'sample.hex', ''], ['00', 'sample-00.hex', ' in draft 00']]) {
+  const frames = await sample(draft);
+  const title = `# A sample of what a control room sends${which}: ${frames.length} frames of at most 128 octets, one a line\n`;
+  fs.writeFileSync(new URL(name, import.meta.url), title + writeHex(frames));
+  console.log(`${name}: ${frames.length} frames`);
+}

@@ -14,7 +14,7 @@ import path from 'node:path';
 import { fileURLToPath } from 'node:url';
 
 const PAGES = ['board', 'desk'];
-const FILES = ['btpu.wasm', 'sample.hex'];
+const FILES = ['btpu.wasm', 'sample.hex', 'sample-00.hex'];
 const IMPORT = /^import \{([\w\s,$]*)\} from '\.\/([\w-]+\.mjs)';$/gm;
 const EXPORT = /^export (?:async function\*?|function\*?|class|const|let) ([\w$]+)/gm;
 const POLICY = "script-src 'self' 'wasm-unsafe-eval'; style-src 'self'; connect-src 'self'";

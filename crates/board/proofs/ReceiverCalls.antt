@@ -10,7 +10,7 @@ use Rattle.receiver.specs.declared.Received.{Received}
 use Rattle.rows.specs.declared.State.{State}
 use Rattle.receiver.specs.declared.Answer.{Answer}
 use Rattle.receiver.specs.declared.Answer.the-variants.{Delivered, Finished, Refused}
-use Rattle.rows.specs.Message.{draft02, Board}
+use Rattle.rows.specs.Message.{draftOf, Board}
 use Rattle.receiver.specs.Receive.{Reply, reply, receive}
 use Rattle.receiver.proofs.Bounds.{place-within}
 use Rattle.images.specs.Receiver.{isImage, stateOf}
@@ -18,13 +18,13 @@ use Rattle.answers.specs.Receiver.{status, place, report, kept}
 use Rattle.board.specs.Receiver.{Exported, exported, received}
 
 -- the place that an answer names lies in a frame
-pub low-place : (b : Board) (frame : List ℕ) (n : ℕ) (output : List ℕ) (r : Received) (pool output′ : List ℕ) → reply r pool output′ ≡ receive draft02 windowSize b frame n output → place (r .answer) < frameMax
+pub low-place : (b : Board) (frame : List ℕ) (n : ℕ) (output : List ℕ) (r : Received) (pool output′ : List ℕ) → reply r pool output′ ≡ receive windowSize b frame n output → place (r .answer) < frameMax
 low-place b frame n output r pool output′ e = go (r .answer) (ap (λ (x : Reply). x .answer) (sym e))
   where
-    go : (a : Answer) → receive draft02 windowSize b frame n output .answer ≡ a → place a < frameMax
+    go : (a : Answer) → receive windowSize b frame n output .answer ≡ a → place a < frameMax
     go (Delivered length next origin) q = omega arith
     go Finished q = omega arith
-    go (Refused refusal) q = place-within draft02 windowSize b frame n output refusal q
+    go (Refused refusal) q = place-within (draftOf (b .state)) windowSize b frame n output refusal q
 
 pub image-refused : (image pool frame : List ℕ) (place : ℕ) (output result : List ℕ) → isImage image ≡ false
     → _≡_ {A = Exported} (record { status = 1; image = image; pool = pool; output = output; result = result }) (received image pool frame place output result)
@@ -33,7 +33,7 @@ image-refused image pool frame place output result e = rw e
 
 -- what the parts of the call leave, put together
 pub image-received : (image pool frame : List ℕ) (place : ℕ) (output result : List ℕ) → isImage image ≡ true → (s : State) → s ≡ stateOf image
-    → (r : Received) (pool′ output′ : List ℕ) → reply r pool′ output′ ≡ receive draft02 windowSize (record { state = s; pool = pool }) frame place output
+    → (r : Received) (pool′ output′ : List ℕ) → reply r pool′ output′ ≡ receive windowSize (record { state = s; pool = pool }) frame place output
     → (n : ℕ) (image′ result′ : List ℕ) → n ≡ status (r .answer) → image′ ≡ kept (r .answer) image (r .state) → result′ ≡ report (r .answer) result
     → _≡_ {A = Exported} (record { status = n; image = image′; pool = pool′; output = output′; result = result′ }) (received image pool frame place output result)
 unfolding received exported

@@ -6,7 +6,7 @@ use mathlib.Core.Option.{Option, none, some}
 use Prim.Native.Nat.{ℕ}
 use Rattle.wire.specs.Frame.{Item}
 use Rattle.window.specs.Window.{windowSize}
-use Rattle.rows.specs.Message.{draft02, Board, messagesFrom}
+use Rattle.rows.specs.Message.{Draft, draftOf, Board, messagesFrom}
 use Rattle.receiver.specs.Receive.{treat, receive}
 use Rattle.receiver.proofs.Calls.{Called, denied, treated, called, Treated, through, stops, treating}
 use Rattle.framing.specs.Answers.{Reply, placed, placedAndReady, ready, nothing, refused, Outcome}
@@ -50,24 +50,27 @@ module _ (image pool frame : List ℕ) (place : ℕ) (output result : List ℕ) 
   abbrev b : Board
   b = record { state = stateOf image; pool = pool }
 
+  abbrev D : Draft
+  D = draftOf (stateOf image)
+
   abbrev is : List Item
-  is = messagesFrom draft02 frame place
+  is = messagesFrom D frame place
 
   -- a call that treats its frame returns 0
-  treat-status : Treated draft02 windowSize b is output → status (treat draft02 windowSize b is output .answer) ≡ 0
+  treat-status : Treated D windowSize b is output → status (treat D windowSize b is output .answer) ≡ 0
   treat-status (through a h q) = rw a
   treat-status (stops pre i suf h q a t hs v) = rw a
 
   receive-unchanged : Unchanged (received image pool frame place output result)
   unfolding received exported report kept
-  receive-unchanged = go (isImage image) (called draft02 windowSize b frame place output)
+  receive-unchanged = go (isImage image) (called D windowSize b frame place output)
     where
-      go : (i : Bool) → Called draft02 windowSize b frame place output
-          → Unchanged (cond i (exported (receive draft02 windowSize b frame place output) image result)
+      go : (i : Bool) → Called D windowSize b frame place output
+          → Unchanged (cond i (exported (receive windowSize b frame place output) image result)
           (record { status = 1; image = image; pool = pool; output = output; result = result }))
       go false c n = refl
       go true (denied q e) n = rw e
-      go true (treated e) n = absurd (n (rw e (treat-status (treating draft02 windowSize b is output))))
+      go true (treated e) n = absurd (n (rw e (treat-status (treating D windowSize b is output))))
 
 -- ---- the burst
 
@@ -78,16 +81,19 @@ module _ (image pool sizes octets : List ℕ) (frame place : ℕ) (l : Lists) (r
   abbrev on : Board
   on = record { state = stateOf image; pool = pool }
 
+  abbrev bursting : Draft
+  bursting = draftOf (stateOf image)
+
   burst-unchanged : BurstUnchanged (burst image pool sizes octets frame place l result)
   unfolding burst Bursts.exported Answered-burst.report Answered-burst.kept
-  burst-unchanged = go (isImage image) (Spec.refusal draft02 windowSize on sizes octets frame place (l .output)) refl
+  burst-unchanged = go (isImage image) (Spec.refusal bursting windowSize on sizes octets frame place (l .output)) refl
     where
-      go : (i : Bool) (q : Option Refusal) → Spec.refusal draft02 windowSize on sizes octets frame place (l .output) ≡ q
-          → BurstUnchanged (cond i (Bursts.exported (Spec.receiveBurst draft02 windowSize on sizes octets frame place l) image result)
+      go : (i : Bool) (q : Option Refusal) → Spec.refusal bursting windowSize on sizes octets frame place (l .output) ≡ q
+          → BurstUnchanged (cond i (Bursts.exported (Spec.receiveBurst bursting windowSize on sizes octets frame place l) image result)
           (record { status = 1; image = image; pool = pool; lists = l; result = result }))
       go false q e n = refl
-      go true (some q) e n = rw (burst-refused draft02 windowSize on sizes octets frame place l q e)
-      go true none e n = absurd (n (rw (burst-treated draft02 windowSize on sizes octets frame place l e)))
+      go true (some q) e n = rw (burst-refused bursting windowSize on sizes octets frame place l q e)
+      go true none e n = absurd (n (rw (burst-treated bursting windowSize on sizes octets frame place l e)))
 
 -- ---- the sender
 
@@ -146,7 +152,7 @@ refused-unchanged =
     record {
       receive = receive-unchanged;
       receiveBurst = burst-unchanged;
-      senderStart = λ image size first. start-unchanged image (Calls.start size first);
+      senderStart = λ v image size first. start-unchanged image (Calls.start v size first);
       place = λ image bundle frame result. outcome-unchanged image frame result _ λ e. place-refused (Images.stateOf image) bundle frame e .1;
       cancel = λ image frame result. outcome-unchanged image frame result _ λ e. cancel-refused (Images.stateOf image) frame e .1;
       flush = λ image frame result. outcome-unchanged image frame result _ λ e. flush-refused (Images.stateOf image) frame e .1;

@@ -3,6 +3,7 @@ use mathlib.Core.Bool.{true, false}
 use mathlib.Core.List.{List}
 use mathlib.Core.Path.{_≡_}
 use Prim.Native.Nat.{ℕ}
+use Rattle.wire.specs.declared.Version.{Version}
 use Rattle.framing.specs.declared.Refusal.{Refusal}
 use Rattle.framing.specs.declared.Sent.{Sent}
 use Rattle.framing.specs.declared.State.{State}
@@ -27,12 +28,12 @@ pub image-answered : (image frame result : List ℕ) → isImage image ≡ true 
 unfolding unlessImage exported
 image-answered image frame result h o r frame′ e n image′ result′ en ei er = rw (h, ← e, en, ei, er)
 
-pub sender-made : (image image′ : List ℕ) (size first : ℕ) (s : Started) (m : State) → startReply s ≡ Calls.start size first → s ≡ Made m
-    → image′ ≡ imageOf m → _≡_ {A = ℕ × List ℕ} (0, image′) (started image size first)
+pub sender-made : (v : Version) (image image′ : List ℕ) (size first : ℕ) (s : Started) (m : State) → startReply s ≡ Calls.start v size first → s ≡ Made m
+    → image′ ≡ imageOf m → _≡_ {A = ℕ × List ℕ} (0, image′) (started v image size first)
 unfolding started startedWith startReply
-sender-made image image′ size first s m e es ei = rw (← e, es, ei)
+sender-made v image image′ size first s m e es ei = rw (← e, es, ei)
 
-pub sender-denied : (image : List ℕ) (size first : ℕ) (s : Started) (r : Refusal) (n : ℕ) → startReply s ≡ Calls.start size first → s ≡ Refused r
-    → n ≡ refusalNumber r → _≡_ {A = ℕ × List ℕ} (n, image) (started image size first)
+pub sender-denied : (v : Version) (image : List ℕ) (size first : ℕ) (s : Started) (r : Refusal) (n : ℕ) → startReply s ≡ Calls.start v size first → s ≡ Refused r
+    → n ≡ refusalNumber r → _≡_ {A = ℕ × List ℕ} (n, image) (started v image size first)
 unfolding started startedWith startReply
-sender-denied image size first s r n e es en = rw (← e, es, en)
+sender-denied v image size first s r n e es en = rw (← e, es, en)

@@ -2,9 +2,9 @@
 use mathlib.Core.Bool.{cond, _&&_}
 use mathlib.Core.List.{List}
 use Prim.Native.Nat.{ℕ}
+use Rattle.wire.specs.declared.Version.{Version}
 use Rattle.window.specs.Window.{windowSize}
 use Rattle.rows.specs.State.{sound, fresh, windowOf}
-use Rattle.rows.specs.Message.{draftOf}
 use Rattle.receiver.specs.Receive.{Reply, receive}
 use Rattle.answers.specs.Receiver.{status, report, kept}
 use Rattle.images.specs.Receiver.{isImage, stateOf, imageOf}
@@ -31,12 +31,12 @@ exported r image result =
 unfoldable pub received : List ℕ → List ℕ → List ℕ → ℕ → List ℕ → List ℕ → Exported
 received image pool frame place output result =
     cond (isImage image)
-    (exported (receive (draftOf (stateOf image)) (windowOf (stateOf image)) (record { state = stateOf image; pool = pool }) frame place output) image result)
+    (exported (receive (windowOf (stateOf image)) (record { state = stateOf image; pool = pool }) frame place output) image result)
     (record { status = 1; image = image; pool = pool; output = output; result = result })
 
--- the image that start writes
-unfoldable pub started : List ℕ
-started = imageOf (fresh windowSize)
+-- the image that the start of a draft writes
+unfoldable pub started : Version → List ℕ
+started v = imageOf (fresh v windowSize)
 
 -- 0, or 1 for octets that are not the image of a sound state
 unfoldable pub checked : List ℕ → ℕ

@@ -1,8 +1,9 @@
 -- Demand 1 for the exported calls, in the order of include/btpu.h: whatever a call returns other than 0, it leaves all that it was lent as
--- it was. btpu_receiver_start refuses nothing, and the two checks are lent nothing to write.
+-- it was. The receiver's starts refuse nothing, and the two checks are lent nothing to write.
 use mathlib.Core.Path.{_≡_}
 use mathlib.Core.List.{List}
 use Prim.Native.Nat.{ℕ}
+use Rattle.wire.specs.declared.Version.{Version}
 use Rattle.playback.specs.Call.{Results}
 use Rattle.board.specs.Receiver as Receiver
 use Rattle.board.specs.Receiver.{received}
@@ -29,9 +30,9 @@ pub record RefusedUnchanged : Type 0 where
   pub receiveBurst : (image pool sizes octets : List ℕ) (frame place : ℕ) (l : Lists) (result : List ℕ)
       → let e : Bursts.Exported = burst image pool sizes octets frame place l result in
       (e .status ≡ 0 → ⊥) → e ≡ record { status = e .status; image = image; pool = pool; lists = l; result = result }
-  -- btpu_sender_start
-  pub senderStart : (image : List ℕ) (size first : ℕ)
-      → let e : ℕ × List ℕ = started image size first in
+  -- btpu_sender_start, btpu_sender_start_00
+  pub senderStart : (v : Version) (image : List ℕ) (size first : ℕ)
+      → let e : ℕ × List ℕ = started v image size first in
       (e .0 ≡ 0 → ⊥) → e .1 ≡ image
   -- btpu_place
   pub place : (image bundle frame result : List ℕ) → SenderUnchanged image frame result (placedBy image bundle frame result)

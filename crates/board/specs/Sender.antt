@@ -2,6 +2,7 @@
 use mathlib.Core.Bool.{cond, _&&_}
 use mathlib.Core.List.{List}
 use Prim.Native.Nat.{ℕ}
+use Rattle.wire.specs.declared.Version.{Version}
 use Rattle.framing.specs.Answers.{Outcome}
 use Rattle.sender.specs.Answers.{StartReply, made, denied}
 use Rattle.sender.specs.Sound.{sound}
@@ -36,8 +37,8 @@ unfoldable pub startedWith : StartReply → List ℕ → ℕ × List ℕ
 startedWith (made s) image = (0, imageOf s)
 startedWith (denied n) image = (n, image)
 
-unfoldable pub started : List ℕ → ℕ → ℕ → ℕ × List ℕ
-started image size first = startedWith (Calls.start size first) image
+unfoldable pub started : Version → List ℕ → ℕ → ℕ → ℕ × List ℕ
+started v image size first = startedWith (Calls.start v size first) image
 
 -- 0, or 1 for octets that are not the image of a sound state
 unfoldable pub checked : List ℕ → ℕ

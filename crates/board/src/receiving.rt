@@ -1,13 +1,24 @@
 // The receiver's calls, on an image of its state.
+use wire::Version;
 ghost use mathlib.Core.Path.{_≡_};
+ghost use Rattle.wire.specs.declared.Version.the-variants.{Draft00, Draft02};
 ghost use Rattle.board.specs.Receiver as Spec;
 
-// Makes the image of a fresh receiver.
+// Makes the image of a fresh receiver of draft 02.
 #[no_mangle]
 pub extern "C" fn btpu_receiver_start(state: &mut [u8; 3144]) -> u32
-    ensures { λ r. ⌜ (r ≡ 0) × (now (state .exit) ≡ Spec.started) ⌝ }
+    ensures { λ r. ⌜ (r ≡ 0) × (now (state .exit) ≡ Spec.started Draft02) ⌝ }
 {
     images::receiving::put_state(state, receiver::start());
+    0
+}
+
+// Makes the image of a fresh receiver of draft 00.
+#[no_mangle]
+pub extern "C" fn btpu_receiver_start_00(state: &mut [u8; 3144]) -> u32
+    ensures { λ r. ⌜ (r ≡ 0) × (now (state .exit) ≡ Spec.started Draft00) ⌝ }
+{
+    images::receiving::put_state(state, receiver::start_as(Version::Draft00));
     0
 }
 

@@ -1,16 +1,17 @@
 // The sender's calls, on an image of its state.
 use sender::Started;
+use wire::Version;
 ghost use mathlib.Core.Path.{_≡_};
 ghost use mathlib.Core.List.{List};
 ghost use Prim.Native.Nat.{ℕ};
+ghost use Rattle.wire.specs.declared.Version.the-variants.{Draft00, Draft02};
 ghost use Rattle.board.specs.Sender as Spec;
 
-// Makes the image of a fresh sender.
-#[no_mangle]
-pub extern "C" fn btpu_sender_start(state: &mut [u8; 24], size: u64, first: u32) -> u32
-    ensures { λ r. ⌜ _≡_ {A = ℕ × List ℕ} (r, now (state .exit)) (Spec.started (now (state .entry)) size first) ⌝ }
+// Makes the image of a fresh sender of a draft.
+fn begin(version: Version, state: &mut [u8; 24], size: u64, first: u32) -> u32
+    ensures { λ r. ⌜ _≡_ {A = ℕ × List ℕ} (r, now (state .exit)) (Spec.started version (now (state .entry)) size first) ⌝ }
 {
-    let s = sender::start(size as usize, first);
+    let s = sender::start_as(version, size as usize, first);
     match s {
         Started::Made(made) => {
             images::sending::put_state(state, made);
@@ -20,6 +21,20 @@ pub extern "C" fn btpu_sender_start(state: &mut [u8; 24], size: u64, first: u32)
             return sender::refusal_number(refusal);
         }
     }
+}
+
+#[no_mangle]
+pub extern "C" fn btpu_sender_start(state: &mut [u8; 24], size: u64, first: u32) -> u32
+    ensures { λ r. ⌜ _≡_ {A = ℕ × List ℕ} (r, now (state .exit)) (Spec.started Draft02 (now (state .entry)) size first) ⌝ }
+{
+    begin(Version::Draft02, state, size, first)
+}
+
+#[no_mangle]
+pub extern "C" fn btpu_sender_start_00(state: &mut [u8; 24], size: u64, first: u32) -> u32
+    ensures { λ r. ⌜ _≡_ {A = ℕ × List ℕ} (r, now (state .exit)) (Spec.started Draft00 (now (state .entry)) size first) ⌝ }
+{
+    begin(Version::Draft00, state, size, first)
 }
 
 // Whether an image is a sound state.

@@ -12,10 +12,11 @@ use lib.Dec.{eqb}
 use borrow.Author.Tests.{eqb-true, le-leb, not-false}
 use Rattle.octets.specs.Octets.{sumOf}
 use Rattle.wire.specs.Frame.{Sized}
+use Rattle.wire.specs.declared.Version.{Version}
 use Rattle.wire.proofs.Spans.{sized}
 use Rattle.window.specs.Window.{Window, windowSize, sixteen}
 use Rattle.pieces.specs.Pieces.{bundleMax}
-use Rattle.rows.specs.Message.{Draft, Board, Handed, draft02}
+use Rattle.rows.specs.Message.{Draft, Board, Handed, draft}
 use Rattle.messages.specs.Run.{going, begun}
 use Rattle.receiver.proofs.Ready.{Ready}
 use Rattle.frames.specs.Frames.{Note, framesOf, Reach, setOut}
@@ -160,9 +161,9 @@ module _ (D : Draft) (M : (xs : List ℕ) → Sized (length xs) (D .read xs)) (C
   pub all-singles : AllSingles D w
   all-singles sizes octets b after gs Z T s = let R = all-of T Z s in (R .handed, R .notes, R .gave, R .calls 0 0)
 
--- for the receiver of document 01
-pub burst-equals-02 : BurstEquals draft02 windowSize
-burst-equals-02 = burst-equals draft02 sized priced-read windowSize sixteen
+-- for a receiver of either draft
+pub burst-equals-draft : (v : Version) → BurstEquals (draft v) windowSize
+burst-equals-draft v = burst-equals (draft v) (sized v) (priced-read v) windowSize sixteen
 
-pub all-singles-02 : AllSingles draft02 windowSize
-all-singles-02 = all-singles draft02 sized priced-read windowSize sixteen
+pub all-singles-draft : (v : Version) → AllSingles (draft v) windowSize
+all-singles-draft v = all-singles (draft v) (sized v) (priced-read v) windowSize sixteen

@@ -3,12 +3,13 @@ use messages::Limits;
 use pieces::BUNDLE_MAX;
 use receiver::POOL;
 use rows::State;
+use wire::Version;
 ghost use mathlib.Core.Path.{_≡_};
 ghost use Prim.Native.Nat.{_≤_};
 ghost use lib.ListN.{length, drop};
 ghost use Rattle.octets.specs.Octets.{sumOf};
 ghost use Rattle.rows.specs.State.{windowOf};
-ghost use Rattle.rows.specs.Message.{draft02, draftOf};
+ghost use Rattle.rows.specs.Message.{draft, draftOf};
 ghost use Rattle.frames.specs.Frames.{framesOf};
 ghost use Rattle.burst.specs.Burst as Spec;
 ghost use Rattle.burst.specs.Steps as Steps;
@@ -65,21 +66,27 @@ pub fn refusal_number(refusal: Refusal) -> u32
 }
 
 // Whether a burst can't start at a place of a frame that there is, or behind all frames.
-fn misplaced(sizes: &[u16], joined: &[u8], frame: usize, place: usize) -> bool
+fn misplaced(version: Version, sizes: &[u16], joined: &[u8], frame: usize, place: usize) -> bool
     requires { ⌜ (length (now sizes) ≤ Spec.framesMax) × (length (now joined) ≡ sumOf (now sizes)) × (frame ≤ length (now sizes)) ⌝ }
-    ensures { λ r. ⌜ r ≡ Spec.misplacedIn draft02 (drop frame (framesOf (now (sizes .entry)) (now (joined .entry)))) place ⌝ }
+    ensures { λ r. ⌜ r ≡ Spec.misplacedIn (draft version) (drop frame (framesOf (now (sizes .entry)) (now (joined .entry)))) place ⌝ }
 {
     if frame == sizes.len() {
         return place != 0;
     }
     let start = octets::sum_of(sizes, frame);
     let end = start + sizes[frame] as usize;
-    frames::reason_of(&joined[start..end], place) == 9
+    frames::reason_of(version, &joined[start..end], place) == 9
 }
 
 // Refusals 3, 19 and 9.
-fn admit_frames(sizes: &[u16], joined: &[u8], frame: usize, place: usize) -> Admission
-    ensures { λ r. ⌜ r ≡ Steps.admission (Spec.unfitting draft02 (now (sizes .entry)) (now (joined .entry)) frame place) ⌝ }
+fn admit_frames(
+    version: Version,
+    sizes: &[u16],
+    joined: &[u8],
+    frame: usize,
+    place: usize,
+) -> Admission
+    ensures { λ r. ⌜ r ≡ Steps.admission (Spec.unfitting (draft version) (now (sizes .entry)) (now (joined .entry)) frame place) ⌝ }
 {
     if FRAMES_MAX < sizes.len() {
         return Admission::Denied(Refusal::FrameCount);
@@ -90,7 +97,7 @@ fn admit_frames(sizes: &[u16], joined: &[u8], frame: usize, place: usize) -> Adm
     if sizes.len() < frame {
         return Admission::Denied(Refusal::Misplaced);
     }
-    if misplaced(sizes, joined, frame, place) {
+    if misplaced(version, sizes, joined, frame, place) {
         return Admission::Denied(Refusal::Misplaced);
     }
     Admission::Admitted
@@ -112,7 +119,7 @@ fn admit(
         if (pool.len() != POOL) | (output.len() < BUNDLE_MAX) {
             return Admission::Denied(Refusal::BufferSize);
         }
-        return admit_frames(sizes, joined, frame, place);
+        return admit_frames(rows::version_of(state), sizes, joined, frame, place);
     }
     Admission::Denied(Refusal::Unsound)
 }

@@ -10,6 +10,7 @@ use lib.Dec.{leb, eqb}
 use borrow.Author.Tests.{eqb-true, eq-eqb, le-leb, lt-leb, leb-true, leb-false}
 use Rattle.octets.proofs.Flags.{bool, or-left, or-right}
 use Rattle.wire.specs.Message.{Message, skipped, bundle, segment, last, cancel}
+use Rattle.pieces.specs.declared.Order.{Order}
 use Rattle.pieces.specs.Pieces.{has, hasAll}
 use Rattle.claims.specs.Record.{Transfers}
 use Rattle.claims.specs.Demand3.{places, NoneBehind}
@@ -142,7 +143,7 @@ places-event first (segment t i d) ms = refl
 places-event first (last t i d) ms = refl
 places-event first (cancel t) ms = refl
 
-module _ (falling : Bool) (T : Transfers) (Q : Message → Type 0) (w₁ w₂ : ℕ) where
+module _ (order : Order) (T : Transfers) (Q : Message → Type 0) (w₁ w₂ : ℕ) where
   abbrev size : ℕ → ℕ
   size k = length (T .pieces k)
 
@@ -188,33 +189,33 @@ module _ (falling : Bool) (T : Transfers) (Q : Message → Type 0) (w₁ w₂ : 
   abbrev Near : Course → Event → Type 0
   Near a e = (k : ℕ) → List·Memᴰ k (placed e) → a .bound ≤ k + w₂
 
-  both-event : {a₁ a₂ : Course} → Ahead a₁ a₂ → (e : Event) → Expected falling T Q e → Near a₂ e → Ahead (afterEvent falling w₁ T a₁ e) (afterEvent falling w₂ T a₂ e)
+  both-event : {a₁ a₂ : Course} → Ahead a₁ a₂ → (e : Event) → Expected order T Q e → Near a₂ e → Ahead (afterEvent order w₁ T a₁ e) (afterEvent order w₂ T a₂ e)
   unfolding afterEvent placed
   both-event A _ idle near = A
   both-event A _ (content c q) near = A
   both-event A _ (part k i k< i< q) near = ahead-both A k (near k (List·Memᴰ·head refl)) (add (size k) i) (whole-stays (size k) i) (below-both (size k) i i<)
   both-event A _ (halt k k<) near = ahead-both A k (near k (List·Memᴰ·head refl)) stop whole-stopped below-stop
 
-  more-event : {a₁ a₂ : Course} → Ahead a₁ a₂ → (e : Event) → Expected falling T Q e → ((k : ℕ) → e ≡ stops k → ⊥) → Near a₂ e → Ahead a₁ (afterEvent falling w₂ T a₂ e)
+  more-event : {a₁ a₂ : Course} → Ahead a₁ a₂ → (e : Event) → Expected order T Q e → ((k : ℕ) → e ≡ stops k → ⊥) → Near a₂ e → Ahead a₁ (afterEvent order w₂ T a₂ e)
   unfolding afterEvent placed
   more-event A _ idle free near = A
   more-event A _ (content c q) free near = A
-  more-event {a₂ = a₂} A _ (part k i k< i< q) free near = ahead-second A k (near k (List·Memᴰ·head refl)) (grown falling w₂ T a₂ k i) (below-more (size k) i i<)
+  more-event {a₂ = a₂} A _ (part k i k< i< q) free near = ahead-second A k (near k (List·Memᴰ·head refl)) (grown order w₂ T a₂ k i) (below-more (size k) i i<)
   more-event A _ (halt k k<) free near = absurd (free k refl)
 
   abbrev pub AllExpected : List Message → Type 0
-  AllExpected ms = (m : Message) → List·Memᴰ m ms → Expected falling T Q (event (T .first) m)
+  AllExpected ms = (m : Message) → List·Memᴰ m ms → Expected order T Q (event (T .first) m)
 
   unfoldable pub AllNear : Course → List Message → Type 0
   AllNear a [] = Unit {0}
-  AllNear a (m ∷ ms) = Near a (event (T .first) m) × AllNear (next falling w₂ T a m) ms
+  AllNear a (m ∷ ms) = Near a (event (T .first) m) × AllNear (next order w₂ T a m) ms
 
-  pub near-append : (a : Course) (ms ns : List Message) → AllNear a (ms ++ ns) → AllNear a ms × AllNear (courseAfter falling w₂ T a ms) ns
+  pub near-append : (a : Course) (ms ns : List Message) → AllNear a (ms ++ ns) → AllNear a ms × AllNear (courseAfter order w₂ T a ms) ns
   unfolding AllNear courseAfter
   near-append a [] ns n = (tt, n)
-  near-append a (m ∷ ms) ns n = let r = near-append (next falling w₂ T a m) ms ns (n .1) in ((n .0, r .0), r .1)
+  near-append a (m ∷ ms) ns n = let r = near-append (next order w₂ T a m) ms ns (n .1) in ((n .0, r .0), r .1)
 
-  pub both-run : {a₁ a₂ : Course} → Ahead a₁ a₂ → (ms : List Message) → AllExpected ms → AllNear a₂ ms → Ahead (courseAfter falling w₁ T a₁ ms) (courseAfter falling w₂ T a₂ ms)
+  pub both-run : {a₁ a₂ : Course} → Ahead a₁ a₂ → (ms : List Message) → AllExpected ms → AllNear a₂ ms → Ahead (courseAfter order w₁ T a₁ ms) (courseAfter order w₂ T a₂ ms)
   unfolding AllNear courseAfter
   both-run A [] v n = A
   both-run A (m ∷ ms) v n = both-run (both-event A (event (T .first) m) (v m (List·Memᴰ·head refl)) (n .0)) ms (λ m h. v m (List·Memᴰ·tail h)) (n .1)
@@ -227,7 +228,7 @@ module _ (falling : Bool) (T : Transfers) (Q : Message → Type 0) (w₁ w₂ : 
   no-stop (last t i d) free k e = let z : _≡_ {A = ℕ} 0 1 = cc in omega arith
   no-stop (cancel t) free k e = free t refl
 
-  pub more-run : {a₁ a₂ : Course} → Ahead a₁ a₂ → (ms : List Message) → AllExpected ms → ((t : ℕ) → List·Memᴰ (cancel t) ms → ⊥) → AllNear a₂ ms → Ahead a₁ (courseAfter falling w₂ T a₂ ms)
+  pub more-run : {a₁ a₂ : Course} → Ahead a₁ a₂ → (ms : List Message) → AllExpected ms → ((t : ℕ) → List·Memᴰ (cancel t) ms → ⊥) → AllNear a₂ ms → Ahead a₁ (courseAfter order w₂ T a₂ ms)
   unfolding AllNear courseAfter
   more-run A [] v c n = A
   more-run A (m ∷ ms) v c n =
@@ -247,11 +248,11 @@ module _ (falling : Bool) (T : Transfers) (Q : Message → Type 0) (w₁ w₂ : 
   Low a ks = (j : ℕ) → List·Memᴰ j ks → a .bound ≤ j + w₂
 
   module _ (pos : 0 < w₂) where
-    low-after : (a : Course) (e : Event) (ks : List ℕ) → Low a (placed e ++ ks) → NoneBehind (w₂ - 1) (placed e ++ ks) → Low (afterEvent falling w₂ T a e) ks × NoneBehind (w₂ - 1) ks
+    low-after : (a : Course) (e : Event) (ks : List ℕ) → Low a (placed e ++ ks) → NoneBehind (w₂ - 1) (placed e ++ ks) → Low (afterEvent order w₂ T a e) ks × NoneBehind (w₂ - 1) ks
     unfolding afterEvent placed NoneBehind
     low-after a quiet ks low n = (low, n)
     low-after a (hands c) ks low n = (low, n)
-    low-after a (comes k i) ks low n = ((λ j h. omega (arith, touch-bound a k (grown falling w₂ T a k i), low j (List·Memᴰ·tail h), n .0 j h)), n .1)
+    low-after a (comes k i) ks low n = ((λ j h. omega (arith, touch-bound a k (grown order w₂ T a k i), low j (List·Memᴰ·tail h), n .0 j h)), n .1)
     low-after a (stops k) ks low n = ((λ j h. omega (arith, touch-bound a k (stop (a .tracks k)), low j (List·Memᴰ·tail h), n .0 j h)), n .1)
 
     pub all-near : (a : Course) (ms : List Message) → Low a (places (T .first) ms) → NoneBehind (w₂ - 1) (places (T .first) ms) → AllNear a ms
@@ -260,7 +261,7 @@ module _ (falling : Bool) (T : Transfers) (Q : Message → Type 0) (w₁ w₂ : 
     all-near a (m ∷ ms) low n =
         let l : Low a (placed (event (T .first) m) ++ places (T .first) ms) = rw (places-event (T .first) m ms) at low in
         let r = low-after a (event (T .first) m) (places (T .first) ms) l (rw (places-event (T .first) m ms) at n) in
-        ((λ k h. l k (Memᴰ·append-left (places (T .first) ms) h)), all-near (next falling w₂ T a m) ms (r .0) (r .1))
+        ((λ k h. l k (Memᴰ·append-left (places (T .first) ms) h)), all-near (next order w₂ T a m) ms (r .0) (r .1))
 
   pub begin-ahead : Ahead begin begin
   unfolding begin

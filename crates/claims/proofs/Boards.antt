@@ -12,11 +12,13 @@ use lib.Seq.{getD-set-same, getD-set-other}
 use lib.Dec.{ltb, leb}
 use borrow.Author.Tests.{ltb-true, ltb-false, leb-true, leb-false}
 use Rattle.octets.proofs.Flags.{bool}
+use Rattle.wire.specs.declared.Version.{Version}
 use Rattle.wire.specs.Message.{Message}
 use Rattle.window.specs.declared.Standing.{Standing}
 use Rattle.window.specs.declared.Standing.the-variants.{Inside, New, Outside}
 use Rattle.window.specs.Window.{Window, standingOf, rowOf, enters}
 use Rattle.window.proofs.Entering.{row-below, all-enter}
+use Rattle.pieces.specs.declared.Order.{Order}
 use Rattle.row.specs.declared.Row.{Row}
 use Rattle.row.specs.declared.Phase.the-variants.{Free}
 use Rattle.reassembly.specs.Rules as Rules
@@ -44,7 +46,7 @@ answered h = delivery (h .origin) (h .octets)
 abbrev answers : Option Handed → List Delivery
 answers o = map answered (listed o)
 
-module _ (falling : Bool) (w : ℕ) (win : Window w) (T : Transfers) where
+module _ (order : Order) (w : ℕ) (win : Window w) (T : Transfers) where
   abbrev slot : ℕ → ℕ
   slot k = rowOf w (numberAt T k)
 
@@ -65,16 +67,16 @@ module _ (falling : Bool) (w : ℕ) (win : Window w) (T : Transfers) where
   slot< k = row-below w win (numberAt T k)
 
   abbrev bundle? : Bool → ℕ → List Delivery
-  bundle? b k = cond b (bundleAt falling T k ∷ []) []
+  bundle? b k = cond b (bundleAt order T k ∷ []) []
 
-  handed-is : (k : ℕ) (b : Bool) → answers (handedOf (Transfer (numberAt T k)) (bundleIf (T .pieces k) falling b)) ≡ bundle? b k
+  handed-is : (k : ℕ) (b : Bool) → answers (handedOf (Transfer (numberAt T k)) (bundleIf (T .pieces k) order b)) ≡ bundle? b k
   unfolding handedOf bundleIf bundleAt listed
   handed-is k true = refl
   handed-is k false = refl
 
   -- a row rule that takes the track of k to t
   abbrev Does : (Row → List ℕ → Rules.Outcome) → ℕ → Track → Track → Type 0
-  Does rule k t t′ = (r : Row) (cell : List ℕ) → Represents (T .pieces k) r cell t → length cell ≡ bundleMax → Stepped (T .pieces k) falling (rule r cell) t t′
+  Does rule k t t′ = (r : Row) (cell : List ℕ) → Represents (T .pieces k) r cell t → length cell ≡ bundleMax → Stepped (T .pieces k) order (rule r cell) t t′
 
   -- A message for a number inside the window.
   module _ {b : Board} {a : Course} (s : Tied b a) (k : ℕ) (k< : k < a .bound) (near : a .bound ≤ k + w)
@@ -85,7 +87,7 @@ module _ (falling : Bool) (w : ℕ) (win : Window w) (T : Transfers) where
     abbrev after : Board
     after = inRow w rule b (numberAt T k) .board
 
-    did : Stepped (T .pieces k) falling o (a .tracks k) t
+    did : Stepped (T .pieces k) order o (a .tracks k) t
     did = does (getD (b .state .rows) (slot k) (emptyRow Free)) (cellAt (b .pool) (slot k)) (s .within k k< near) (length-cell w (b .pool) (s .pool) (slot k) (slot< k))
 
     row-gives : answers (inRow w rule b (numberAt T k) .handed) ≡ bundle? (newly (a .tracks k) t) k
@@ -201,36 +203,36 @@ module _ (falling : Bool) (w : ℕ) (win : Window w) (T : Transfers) where
 
   -- ---- the messages of a record
 
-  piece-steps : (b : Board) (k i : ℕ) → step w falling b (pieceAt T k i) ≡ transfer w (pieceStep falling (isLast (T .pieces k) i) i (getD (T .pieces k) i [])) b (numberAt T k)
+  piece-steps : (b : Board) (k i : ℕ) → step w order b (pieceAt T k i) ≡ transfer w (pieceStep order (isLast (T .pieces k) i) i (getD (T .pieces k) i [])) b (numberAt T k)
   unfolding step pieceAt
   piece-steps b k i = go (bool (isLast (T .pieces k) i))
     where
-      go : (isLast (T .pieces k) i ≡ true) ⊎ (isLast (T .pieces k) i ≡ false) → step w falling b (pieceAt T k i) ≡ transfer w (pieceStep falling (isLast (T .pieces k) i) i (getD (T .pieces k) i [])) b (numberAt T k)
+      go : (isLast (T .pieces k) i ≡ true) ⊎ (isLast (T .pieces k) i ≡ false) → step w order b (pieceAt T k i) ≡ transfer w (pieceStep order (isLast (T .pieces k) i) i (getD (T .pieces k) i [])) b (numberAt T k)
       go (inl e) = rw e
       go (inr e) = rw e
 
-  step-tied : {b : Board} {a : Course} → Tied b a → (m : Message) → Honest T m → Tied (step w falling b m .board) (next falling w T a m) × (answers (step w falling b m .handed) ≡ gives falling w T a m)
+  step-tied : {b : Board} {a : Course} → Tied b a → (m : Message) → Honest T m → Tied (step w order b m .board) (next order w T a m) × (answers (step w order b m .handed) ≡ gives order w T a m)
   unfolding step event afterEvent handsOut handedOf listed
   step-tied s _ padding = (s, refl)
   step-tied s _ (whole c) = (s, refl)
   step-tied {b} {a} s _ (piece k i k< i<) =
       rw (piece-steps b k i, piece-event T k i k<)
-      (transfer-tied s k k< (pieceStep falling (isLast (T .pieces k) i) i (getD (T .pieces k) i [])) (grown falling w T a k i)
-      (λ r cell h c. piece-step (T .pieces k) falling (T .short k k<) (T .fits k k<) i r cell (a .tracks k) h c i<))
+      (transfer-tied s k k< (pieceStep order (isLast (T .pieces k) i) i (getD (T .pieces k) i [])) (grown order w T a k i)
+      (λ r cell h c. piece-step (T .pieces k) order (T .short k k<) (T .fits k k<) i r cell (a .tracks k) h c i<))
   step-tied {b} {a} s _ (cancelled k k<) =
-      let both = transfer-tied s k k< cancelStep (stop (a .tracks k)) (λ r cell h c. cancel-step (T .pieces k) falling (T .short k k<) (T .fits k k<) r cell (a .tracks k) h c) in
+      let both = transfer-tied s k k< cancelStep (stop (a .tracks k)) (λ r cell h c. cancel-step (T .pieces k) order (T .short k k<) (T .fits k k<) r cell (a .tracks k) h c) in
       rw (place-of T k k<) (both .0, both .1 ∙ rw (stop-quiet (leb (a .bound) (k + w)) (a .tracks k)))
 
   pub run-tied : {b : Board} {a : Course} → Tied b a → (ms : List Message) → ((m : Message) → List·Memᴰ m ms → Honest T m)
-      → Tied (boardAfter w falling b ms) (courseAfter falling w T a ms) × (map answered (handedBy w falling b ms) ≡ givenBy falling w T a ms)
+      → Tied (boardAfter w order b ms) (courseAfter order w T a ms) × (map answered (handedBy w order b ms) ≡ givenBy order w T a ms)
   unfolding boardAfter handedBy courseAfter givenBy
   run-tied s [] v = (s, refl)
   run-tied {b} s (m ∷ ms) v =
       let one = step-tied s m (v m (List·Memᴰ·head refl)) in
       let rest = run-tied (one .0) ms (λ n h. v n (List·Memᴰ·tail h)) in
-      (rest .0, map-append answered (listed (step w falling b m .handed)) (handedBy w falling (step w falling b m .board) ms) ∙ rw (one .1, rest .1))
+      (rest .0, map-append answered (listed (step w order b m .handed)) (handedBy w order (step w order b m .board) ms) ∙ rw (one .1, rest .1))
 
-  pub fresh-tied : (b : Board) → Fresh w b → Tied b begin
+  pub fresh-tied : {v : Version} (b : Board) → Fresh v w b → Tied b begin
   unfolding begin fresh
   fresh-tied b f = record {
     absent = λ e. rw (f .started);

@@ -1,5 +1,6 @@
 -- One record, computed: demand 3's premises are met with a gain, and the claim is false without two of them. The record's numbers run from
 -- 4,294,967,291 over 0 to 11.
+use Rattle.wire.specs.declared.Version.the-variants.{Draft02}
 use mathlib.Core.Path.{_≡_, refl, ap}
 use mathlib.Core.Bool.{cond}
 use mathlib.Core.List.{List, [], _∷_, map, List·Memᴰ, List·Memᴰ·head, List·Memᴰ·tail, List·Memᴰ·eq-of-singleton, List·Memᴰ·not-nil}
@@ -14,7 +15,6 @@ use Rattle.wire.specs.Layout as Layout
 use Rattle.wire.specs.Layout.{read}
 use Rattle.wire.specs.Frame as Frame
 use Rattle.wire.specs.Frame.{row, items, scanned, messages}
-use Rattle.wire.proofs.Spans.{sized}
 use Rattle.window.specs.Window as Window
 use Rattle.window.specs.Window.{sixteen}
 use Rattle.pieces.specs.Pieces as Pieces
@@ -26,8 +26,9 @@ use Rattle.rows.specs.declared.Origin.the-variants.{Transfer}
 use Rattle.rows.specs.State as State
 use Rattle.rows.specs.State.{fresh}
 use Rattle.rows.specs.Message as Step
-use Rattle.rows.specs.Message.{draft02, Board}
+use Rattle.rows.specs.Message.{draft, Board}
 use Rattle.rows.specs.Messages as Run
+use Rattle.receiver.specs.Receive.{receive}
 use Rattle.claims.specs.Record.{WellFormed, Transfers, numberAt, pieceAt, Honest, piece, cancelled, Record}
 use Rattle.claims.specs.Calls.{Delivery, Entry, handedOf, Calls}
 use Rattle.claims.proofs.Taking.{entriesOf, receives, reception}
@@ -69,23 +70,23 @@ frames = front ∷ back ∷ other ∷ stop ∷ []
 
 -- the frame is one message
 record One (f : List ℕ) (m : Message) : Type 0 where
-  scan : scanned read f ≡ row (record { start = 0; next = length f; message = m } ∷ [])
+  scan : scanned (read Draft02) f ≡ row (record { start = 0; next = length f; message = m } ∷ [])
 
 scans : One front (segment 4294967291 0 (65 ∷ [])) × One back (last 4294967291 1 (66 ∷ [])) × One other (last 11 0 (67 ∷ [])) × One stop (cancel 4294967291)
 unfolding front back other stop Octets.number Layout.kindOf Layout.lengthField Layout.hints Layout.fitting Layout.message Layout.content Layout.body Layout.bodied Layout.headed Layout.read Frame.prepend Frame.follow Frame.scan Frame.scanned
 scans = (record { scan = refl }, record { scan = refl }, record { scan = refl }, record { scan = refl })
 
-only : {f : List ℕ} {m : Message} → One f m → messages read f ≡ m ∷ []
+only : {f : List ℕ} {m : Message} → One f m → messages (read Draft02) f ≡ m ∷ []
 unfolding messages items
 only e = rw (e .scan)
 
 record Fine (f : List ℕ) : Type 0 where
-  wellFormed : WellFormed draft02 f
+  wellFormed : WellFormed (draft Draft02) f
   message : Message
   one : One f message
   honest : Honest transfers message
 
-well-formed : {f : List ℕ} {m : Message} → 0 < length f → length f ≤ 2048 → One f m → WellFormed draft02 f
+well-formed : {f : List ℕ} {m : Message} → 0 < length f → length f ≤ 2048 → One f m → WellFormed (draft Draft02) f
 well-formed {f} {m} some small e = record { some = some; small = small; items = record { start = 0; next = length f; message = m } ∷ []; whole = e .scan }
 
 fine-one : (f : List ℕ) (m : Message) → 0 < length f → length f ≤ 2048 → One f m → Honest transfers m → Fine f
@@ -99,7 +100,7 @@ fine f (List·Memᴰ·tail (List·Memᴰ·tail (List·Memᴰ·head e))) = rw e (
 fine f (List·Memᴰ·tail (List·Memᴰ·tail (List·Memᴰ·tail (List·Memᴰ·head e)))) = rw e (fine-one stop (cancel 4294967291) (omega arith) (omega arith) (scans .3) (cancelled 0 (omega arith)))
 fine f (List·Memᴰ·tail (List·Memᴰ·tail (List·Memᴰ·tail (List·Memᴰ·tail m)))) = absurd (List·Memᴰ·not-nil m)
 
-example : Record draft02
+example : Record Draft02
 example = record {
   transfers = transfers;
   frames = frames;
@@ -110,7 +111,7 @@ example = record {
 -- ---- what boards hand out
 
 board : Board
-board = record { state = fresh 16; pool = replicate 65536 0 }
+board = record { state = fresh Draft02 16; pool = replicate 65536 0 }
 
 bundle : Delivery
 bundle = delivery (Transfer 4294967291) (65 ∷ 66 ∷ [])
@@ -130,8 +131,8 @@ stopped = took stop [] ∷ took front [] ∷ took back [] ∷ []
 abbrev late : List Entry
 late = took other (delivery (Transfer 11) (67 ∷ []) ∷ []) ∷ took front [] ∷ took back [] ∷ []
 
-computed : (entriesOf draft02 16 board (front ∷ []) ≡ short) × (entriesOf draft02 16 board (front ∷ back ∷ []) ≡ long)
-    × (entriesOf draft02 16 board (stop ∷ front ∷ back ∷ []) ≡ stopped) × (entriesOf draft02 16 board (other ∷ front ∷ back ∷ []) ≡ late)
+computed : (entriesOf (draft Draft02) 16 board (front ∷ []) ≡ short) × (entriesOf (draft Draft02) 16 board (front ∷ back ∷ []) ≡ long)
+    × (entriesOf (draft Draft02) 16 board (stop ∷ front ∷ back ∷ []) ≡ stopped) × (entriesOf (draft Draft02) 16 board (other ∷ front ∷ back ∷ []) ≡ late)
 unfolding front back other stop board bundle delivery entriesOf Octets.number Octets.put Layout.kindOf Layout.lengthField Layout.hints Layout.fitting Layout.message Layout.content Layout.body Layout.bodied Layout.headed Layout.read Frame.prepend Frame.items Frame.follow Frame.scan Frame.scanned Frame.messages Window.standing Window.standingOf Window.enters Pieces.has Pieces.hasAbove Pieces.hasAll Octets.sumOf Row.indexesOf Row.lengthsOf Pieces.startOf Pieces.sizeOf Pieces.piece Pieces.joined Rules.cancelled Row.contradicts Row.judgeLive Row.judge Rules.withPiece Rules.complete Rules.bundleOf Rules.settle Rules.carryOut Rules.pieceStep Rules.cancelStep State.fresh Step.cellAt Step.putCell Step.handedOf Step.freedFrom Step.moved Step.inRow Step.treatTransfer Step.step Run.listed Run.boardAfter Run.handedBy
 computed = (refl, refl, refl, refl)
 
@@ -145,9 +146,9 @@ among [] a f m = absurd (List·Memᴰ·not-nil m)
 among (g ∷ fs) a f (List·Memᴰ·head e) = rw e (a .0)
 among (g ∷ fs) a f (List·Memᴰ·tail m) = among fs (a .1) f m
 
-received : (fs : List (List ℕ)) (es : List Entry) → entriesOf draft02 16 board fs ≡ es → Among fs → Reception example 16 es
+received : (fs : List (List ℕ)) (es : List Entry) → entriesOf (draft Draft02) 16 board fs ≡ es → Among fs → Reception example 16 es
 unfolding board example
-received fs es e a = rw e at (reception draft02 sized example 16 sixteen board (record { started = refl; pooled = length-replicate {A = ℕ} 65536 0 }) fs (among fs a))
+received fs es e a = rw e at (reception example 16 sixteen board (record { started = refl; pooled = length-replicate {A = ℕ} 65536 0 }) fs (among fs a))
 
 receptions : Reception example 16 short × Reception example 16 long × Reception example 16 stopped × Reception example 16 late
 unfolding frames Among
@@ -164,18 +165,18 @@ receptions =
 
 -- Demand 3's last part for this record, with further frames of which F holds and the bound n on how far behind a message may come.
 abbrev Claim : (List ℕ → Type 0) → ℕ → Type 0
-Claim F n = (x y : List Entry) → Reception example 16 x → Reception example 16 y → (f : With F x y) → NoneBehind n (places 4294967291 (messagesOf draft02 y)) → Kept [] [] f
+Claim F n = (x y : List Entry) → Reception example 16 x → Reception example 16 y → (f : With F x y) → NoneBehind n (places 4294967291 (messagesOf (draft Draft02) y)) → Kept [] [] f
 
-holds : Claim (NoCancel draft02) 15
+holds : Claim (NoCancel (draft Draft02)) 15
 unfolding example transfers
 holds = more-reception example .moreNeverCosts
 
-uncancelled : (f : List ℕ) {n i : ℕ} {d : List ℕ} → One f (last n i d) → NoCancel draft02 f
+uncancelled : (f : List ℕ) {n i : ℕ} {d : List ℕ} → One f (last n i d) → NoCancel (draft Draft02) f
 unfolding NoCancel
 uncancelled f e t m = let q = List·Memᴰ·eq-of-singleton (rw (only e) at m) in let z : _≡_ {A = ℕ} 0 1 = cc in omega arith
 
 -- Its premises are met by two boards of which the second hands out a transfer that the first lacks.
-gain : With (NoCancel draft02) short long × NoneBehind 15 (places 4294967291 (messagesOf draft02 long))
+gain : With (NoCancel (draft Draft02)) short long × NoneBehind 15 (places 4294967291 (messagesOf (draft Draft02) long))
 unfolding places NoneBehind messagesOf
 gain = (same refl (more (uncancelled back (scans .1)) none), rw (only (scans .0), only (scans .1)) ((λ j m. omega arith), ((λ j m. omega arith), tt)))
 
@@ -188,7 +189,7 @@ not-with-cancels claim =
     List·Memᴰ·not-nil (k .1 .0 bundle 4294967291 refl (List·Memᴰ·head refl))
 
 -- It is false where a message may come 16 behind one already come.
-not-sixteen-behind : Claim (NoCancel draft02) 16 → ⊥
+not-sixteen-behind : Claim (NoCancel (draft Draft02)) 16 → ⊥
 unfolding bundle delivery places NoneBehind messagesOf Kept
 not-sixteen-behind claim =
     let k = claim long late (receptions .1) (receptions .3) (more (uncancelled other (scans .2)) (same refl (same refl none)))
@@ -211,11 +212,11 @@ number t = delivery (Transfer t) (65 ∷ [])
 abbrev twice : List Entry
 twice = took near (number 5 ∷ []) ∷ took far (number 2147483653 ∷ []) ∷ took near (number 5 ∷ []) ∷ []
 
-computed-twice : (entriesOf draft02 16 board (near ∷ far ∷ near ∷ []) ≡ twice) × One near (last 5 0 (65 ∷ [])) × One far (last 2147483653 0 (65 ∷ []))
+computed-twice : (entriesOf (draft Draft02) 16 board (near ∷ far ∷ near ∷ []) ≡ twice) × One near (last 5 0 (65 ∷ [])) × One far (last 2147483653 0 (65 ∷ []))
 unfolding near far board delivery entriesOf Octets.number Octets.put Layout.kindOf Layout.lengthField Layout.hints Layout.fitting Layout.message Layout.content Layout.body Layout.bodied Layout.headed Layout.read Frame.prepend Frame.items Frame.follow Frame.scan Frame.scanned Frame.messages Window.standing Window.standingOf Window.enters Pieces.has Pieces.hasAbove Pieces.hasAll Octets.sumOf Row.indexesOf Row.lengthsOf Pieces.startOf Pieces.sizeOf Pieces.piece Pieces.joined Rules.cancelled Row.contradicts Row.judgeLive Row.judge Rules.withPiece Rules.complete Rules.bundleOf Rules.settle Rules.carryOut Rules.pieceStep Rules.cancelStep State.fresh Step.cellAt Step.putCell Step.handedOf Step.freedFrom Step.moved Step.inRow Step.treatTransfer Step.step Run.listed Run.boardAfter Run.handedBy
 computed-twice = (refl, record { scan = refl }, record { scan = refl })
 
-both-well-formed : (f : List ℕ) → List·Memᴰ f (near ∷ far ∷ near ∷ []) → WellFormed draft02 f
+both-well-formed : (f : List ℕ) → List·Memᴰ f (near ∷ far ∷ near ∷ []) → WellFormed (draft Draft02) f
 unfolding near far
 both-well-formed f (List·Memᴰ·head e) = rw e (well-formed (omega arith) (omega arith) (computed-twice .1))
 both-well-formed f (List·Memᴰ·tail (List·Memᴰ·head e)) = rw e (well-formed (omega arith) (omega arith) (computed-twice .2))
@@ -223,8 +224,8 @@ both-well-formed f (List·Memᴰ·tail (List·Memᴰ·tail (List·Memᴰ·head e
 both-well-formed f (List·Memᴰ·tail (List·Memᴰ·tail (List·Memᴰ·tail m))) = absurd (List·Memᴰ·not-nil m)
 
 -- "No transfer twice" is false of well-formed frames that are of no honest record.
-not-without-a-record : ((es : List Entry) → Calls draft02 16 board es → NoTransferTwice (handedOf es)) → ⊥
+not-without-a-record : ((es : List Entry) → Calls (receive 16) board es → NoTransferTwice (handedOf es)) → ⊥
 unfolding board delivery handedOf NoTransferTwice
 not-without-a-record claim =
-    let c = receives draft02 16 sized sixteen board (record { started = refl; pooled = length-replicate {A = ℕ} 65536 0 }) (near ∷ far ∷ near ∷ []) both-well-formed in
+    let c = receives Draft02 16 sixteen board (record { started = refl; pooled = length-replicate {A = ℕ} 65536 0 }) (near ∷ far ∷ near ∷ []) both-well-formed in
     claim twice (rw (computed-twice .0) at c) .0 (number 5) 5 (List·Memᴰ·tail (List·Memᴰ·head refl)) refl refl

@@ -9,6 +9,7 @@ use lib.ListN.{length}
 use lib.Dec.{leb}
 use Rattle.octets.proofs.Flags.{bool}
 use Rattle.wire.specs.Message.{Message, bundle}
+use Rattle.pieces.specs.declared.Order.{Order}
 use Rattle.pieces.specs.Pieces.{has, hasAll}
 use Rattle.rows.specs.declared.Origin.the-variants.{Whole, Transfer}
 use Rattle.claims.specs.Record as Record
@@ -45,7 +46,7 @@ newly-whole (live is) stopped e = absurd (false≢true e)
 newly-whole whole t e = absurd (false≢true e)
 newly-whole stopped t e = absurd (false≢true e)
 
-module _ (falling : Bool) (T : Transfers) (Q : Message → Type 0) where
+module _ (order : Order) (T : Transfers) (Q : Message → Type 0) where
   -- an event of the record
   pub data Expected : Event → Type 0 where
     idle : Expected quiet
@@ -61,7 +62,7 @@ module _ (falling : Bool) (T : Transfers) (Q : Message → Type 0) where
   expected _ (Record.cancelled k k<) q = rw (place-of T k k<) (halt k k<)
 
   abbrev pub out : ℕ → Delivery
-  out k = bundleAt falling T k
+  out k = bundleAt order T k
 
   abbrev size : ℕ → ℕ
   size k = length (T .pieces k)
@@ -156,19 +157,19 @@ module _ (falling : Bool) (T : Transfers) (Q : Message → Type 0) where
       known h (inl m) = G .known h m
       known h (inr m) = plain c q (List·Memᴰ·eq-of-singleton m)
 
-  given-event : (w : ℕ) {a : Course} {hs : List Delivery} → Given a hs → (e : Event) → Expected e → Given (afterEvent falling w T a e) (hs ++ handsOut falling w T a e)
+  given-event : (w : ℕ) {a : Course} {hs : List Delivery} → Given a hs → (e : Event) → Expected e → Given (afterEvent order w T a e) (hs ++ handsOut order w T a e)
   unfolding afterEvent handsOut
   given-event w {a} {hs} G _ idle = rw (append-nil hs) G
   given-event w G _ (content c q) = given-plain G c q
-  given-event w {a} {hs} G _ (part k i k< i< q) = given-touch G k k< (grown falling w T a k i) (whole-stays (size k) i (a .tracks k)) w (backed-add k i (a .tracks k) hs i< q (G .backed k))
+  given-event w {a} {hs} G _ (part k i k< i< q) = given-touch G k k< (grown order w T a k i) (whole-stays (size k) i (a .tracks k)) w (backed-add k i (a .tracks k) hs i< q (G .backed k))
   given-event w {a} {hs} G _ (halt k k<) = rw (stop-quiet (leb (a .bound) (k + w)) (a .tracks k)) at (given-touch G k k< (stop (a .tracks k)) (whole-stopped (a .tracks k)) w (backed-stop k (a .tracks k) hs _ (G .backed k)))
 
   pub given-run : (w : ℕ) {a : Course} {hs : List Delivery} → Given a hs → (ms : List Message) → ((m : Message) → List·Memᴰ m ms → Expected (event (T .first) m))
-      → Given (courseAfter falling w T a ms) (hs ++ givenBy falling w T a ms)
+      → Given (courseAfter order w T a ms) (hs ++ givenBy order w T a ms)
   unfolding courseAfter givenBy
   given-run w {a} {hs} G [] good = rw (append-nil hs) G
   given-run w {a} {hs} G (m ∷ ms) good =
-      rw (append-assoc hs (handsOut falling w T a (event (T .first) m)) (givenBy falling w T (afterEvent falling w T a (event (T .first) m)) ms))
+      rw (append-assoc hs (handsOut order w T a (event (T .first) m)) (givenBy order w T (afterEvent order w T a (event (T .first) m)) ms))
       at (given-run w (given-event w G (event (T .first) m) (good m (List·Memᴰ·head refl))) ms (λ n h. good n (List·Memᴰ·tail h)))
 
   pub given-begin : Given begin []

@@ -2,7 +2,6 @@
 use mathlib.Core.Path.{_≡_, refl, _∙_}
 use mathlib.Core.Bool.{Bool, true, false, _||_, or-true}
 use mathlib.Core.Logic.{_⊎_, inl, inr}
-use mathlib.Core.Option.{none, some}
 use mathlib.Core.List.{List, [], _∷_, _++_, map, append-assoc, map-append}
 use Prim.Native.Nat.{ℕ, zero, suc, _+_, _≤_, _<_}
 use native.Mathlib.Omega.{arith}
@@ -14,6 +13,7 @@ use Rattle.octets.proofs.Flags.{bool}
 use Rattle.row.specs.declared.Row.{Row}
 use Rattle.row.specs.declared.Phase.the-variants.{Free}
 use Rattle.octets.specs.Octets.{sumOf}
+use Rattle.pieces.specs.declared.Order.the-variants.{Rising}
 use Rattle.pieces.specs.Pieces.{bundleMax, has, hasAll}
 use Rattle.row.specs.Row.{emptyRow}
 use Rattle.reassembly.specs.Rules.{Outcome, pieceStep}
@@ -22,6 +22,7 @@ use Rattle.claims.specs.Record.{isLast}
 use Rattle.claims.specs.Demand3.{join}
 use Rattle.claims.proofs.Held.{has-snoc, has-all}
 use Rattle.claims.proofs.Track.{live, settled, add, newly}
+use Rattle.claims.proofs.Carries.{Continued, Ended}
 use Rattle.claims.proofs.Pieces.{sum-append, Holds, Represents, Stepped, bundleIf, holds-none, piece-step}
 
 -- ---- the indexes below n, in order
@@ -59,15 +60,6 @@ pub in-order-none : (cell : List ℕ) → length cell ≡ bundleMax → InOrder 
 unfolding InOrder upTo
 in-order-none cell l q qs f = holds-none (q ∷ qs) cell l
 
-pub record Continued (ps : List (List ℕ)) (o : Outcome) : Type 0 where
-  pub row : InOrder ps (o .row) (o .cell)
-  pub quiet : o .bundle ≡ none
-  pub sized : length (o .cell) ≡ bundleMax
-
-pub record Ended (octets : List ℕ) (o : Outcome) : Type 0 where
-  pub gives : o .bundle ≡ some octets
-  pub sized : length (o .cell) ≡ bundleMax
-
 module _ (ps : List (List ℕ)) (x : List ℕ) (r : Row) (cell : List ℕ) (h : InOrder ps r cell) (full : length cell ≡ bundleMax) where
   abbrev i : ℕ
   i = length ps
@@ -77,22 +69,22 @@ module _ (ps : List (List ℕ)) (x : List ℕ) (r : Row) (cell : List ℕ) (h : 
 
   -- piece x comes, and qs are to follow
   comes : (qs : List (List ℕ)) → Fits (ps ++ x ∷ qs)
-      → Stepped (ps ++ x ∷ qs) false (pieceStep false (isLast (ps ++ x ∷ qs) i) i x r cell) (live (upTo i)) (settled (length (ps ++ x ∷ qs)) (upTo (suc i)))
+      → Stepped (ps ++ x ∷ qs) Rising (pieceStep Rising (isLast (ps ++ x ∷ qs) i) i x r cell) (live (upTo i)) (settled (length (ps ++ x ∷ qs)) (upTo (suc i)))
   unfolding InOrder Represents add upTo
   comes qs f =
       rw (getD-append-seam ps x qs [], new i i (omega arith)) at
-      (piece-step (ps ++ x ∷ qs) false (f .few) (f .small) i r cell (live (upTo i)) (h x qs f) full (omega (arith, size qs)))
+      (piece-step (ps ++ x ∷ qs) Rising (f .few) (f .small) i r cell (live (upTo i)) (h x qs f) full (omega (arith, size qs)))
 
   abbrev after : Bool → Outcome
-  after ending = pieceStep false ending i x r cell
+  after ending = pieceStep Rising ending i x r cell
 
-  continues : (q : List ℕ) (qs : List (List ℕ)) → Fits (ps ++ x ∷ q ∷ qs) → Stepped (ps ++ x ∷ q ∷ qs) false (after false) (live (upTo i)) (live (upTo (suc i)))
+  continues : (q : List ℕ) (qs : List (List ℕ)) → Fits (ps ++ x ∷ q ∷ qs) → Stepped (ps ++ x ∷ q ∷ qs) Rising (after false) (live (upTo i)) (live (upTo (suc i)))
   unfolding settled
   continues q qs f =
       let n = size (q ∷ qs) in
       rw (ne-eqb (i + 1) (length (ps ++ x ∷ q ∷ qs)) (omega arith), all-lacks (length (ps ++ x ∷ q ∷ qs)) (suc i) (upTo (suc i)) (omega arith) (new (suc i) (suc i) (omega arith))) at (comes (q ∷ qs) f)
 
-  pub continued : length ps < 63 → sumOf (map length (ps ++ x ∷ [])) ≤ bundleMax → Continued (ps ++ x ∷ []) (after false)
+  pub continued : length ps < 63 → sumOf (map length (ps ++ x ∷ [])) ≤ bundleMax → Continued (InOrder (ps ++ x ∷ [])) (after false)
   unfolding InOrder Represents newly bundleIf sumOf
   continued few small =
       let one = continues [] [] record { few = omega (arith, size ([] ∷ [])); small = rw (map-append length ps (x ∷ [] ∷ []), sum-append) (rw (map-append length ps (x ∷ []), sum-append) at small) } in
@@ -103,7 +95,7 @@ module _ (ps : List (List ℕ)) (x : List ℕ) (r : Row) (cell : List ℕ) (h : 
         sized = one .sized;
       }
 
-  pub ended : length ps ≤ 63 → sumOf (map length (ps ++ x ∷ [])) ≤ bundleMax → Ended (join false (ps ++ x ∷ [])) (after true)
+  pub ended : length ps ≤ 63 → sumOf (map length (ps ++ x ∷ [])) ≤ bundleMax → Ended (join Rising (ps ++ x ∷ [])) (after true)
   unfolding settled newly bundleIf
   ended few small =
       let n = size [] in

@@ -4,6 +4,7 @@ use mathlib.Core.Bool.{true}
 use mathlib.Core.List.{[], _∷_, map}
 use Prim.Native.Nat.{_-_, _^_}
 use Rattle.claims.specs.Marked as Cases
+use Rattle.wire.specs.declared.Version.the-variants.{Draft02}
 use Rattle.window.specs.declared.Standing.the-variants.{Inside}
 use Rattle.window.specs.Window.{windowSize, distance, standingOf}
 use Rattle.claims.proofs.Computing.{computing}
@@ -11,8 +12,8 @@ use Rattle.claims.specs.Marked.{Case, finished, freshBoard, takenFrom, m
 
 -- M1 to M12; M5's second frame behind its first; M13, 9 behind
 pub record MarkedCases : Type 0 where
-  pub table : map (λ (c : Case). marked (takenFrom freshBoard (c .frame))) cases ≡ map (λ (c : Case). c .answer) cases
-  pub m5 : marked (takenFrom (takenFrom freshBoard (5 ∷ 0 ∷ 0 ∷ 4 ∷ 0 ∷ 0 ∷ 0 ∷ 5 ∷ []) .board) (4 ∷ 0 ∷ 0 ∷ 9 ∷ 0 ∷ 0 ∷ 0 ∷ 5 ∷ 0 ∷ 0 ∷ 0 ∷ 0 ∷ 65 ∷ [])) ≡ finished
+  pub table : map (λ (c : Case). marked (takenFrom (freshBoard Draft02) (c .frame))) cases ≡ map (λ (c : Case). c .answer) cases
+  pub m5 : marked (takenFrom (takenFrom (freshBoard Draft02) (5 ∷ 0 ∷ 0 ∷ 4 ∷ 0 ∷ 0 ∷ 0 ∷ 5 ∷ []) .board) (4 ∷ 0 ∷ 0 ∷ 9 ∷ 0 ∷ 0 ∷ 0 ∷ 5 ∷ 0 ∷ 0 ∷ 0 ∷ 0 ∷ 65 ∷ [])) ≡ finished
   pub m13 : (standingOf windowSize true 3 4294967290 ≡ Inside) × (distance 3 4294967290 ≡ 2 ^ 32 - 9)
 
 pub marked-cases : MarkedCases

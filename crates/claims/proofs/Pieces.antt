@@ -14,6 +14,8 @@ use borrow.Author.Tests.{eqb-true, eqb-false, eq-eqb, ne-eqb, le-ltb}
 use Rattle.octets.specs.Octets.{put, sumOf}
 use Rattle.octets.proofs.Flags.{bool, both, or-right}
 use Rattle.octets.proofs.Put.{length-put}
+use Rattle.pieces.specs.declared.Order.{Order}
+use Rattle.pieces.specs.declared.Order.the-variants.{Rising, Falling}
 use Rattle.row.specs.declared.Row.{Row}
 use Rattle.row.specs.declared.Phase.the-variants.{Free, Done, Cancelled}
 use Rattle.pieces.specs.Pieces.{bundleMax, has, hasAbove, hasAll, piece, joined}
@@ -28,12 +30,15 @@ use Rattle.claims.proofs.Track.{Track, live, whole, stopped, add, settl
 
 -- ---- lists with one entry more
 
-pub join-snoc : (falling : Bool) (xs : List (List ℕ)) (y : List ℕ) → join falling (xs ++ y ∷ []) ≡ cond falling (y ++ join falling xs) (join falling xs ++ y)
+pub join-rising : (xs : List (List ℕ)) (y : List ℕ) → join Rising (xs ++ y ∷ []) ≡ join Rising xs ++ y
 unfolding join
-join-snoc true [] y = sym (append-nil y)
-join-snoc false [] y = append-nil y
-join-snoc true (x ∷ xs) y = rw (join-snoc true xs y) (append-assoc y (join true xs) x)
-join-snoc false (x ∷ xs) y = rw (join-snoc false xs y) (sym (append-assoc x (join false xs) y))
+join-rising [] y = append-nil y
+join-rising (x ∷ xs) y = rw (join-rising xs y) (sym (append-assoc x (join Rising xs) y))
+
+join-falling : (xs : List (List ℕ)) (y : List ℕ) → join Falling (xs ++ y ∷ []) ≡ y ++ join Falling xs
+unfolding join
+join-falling [] y = sym (append-nil y)
+join-falling (x ∷ xs) y = rw (join-falling xs y) (append-assoc y (join Falling xs) x)
 
 pub sum-append : (xs ys : List ℕ) → sumOf (xs ++ ys) ≡ sumOf xs + sumOf ys
 unfolding sumOf
@@ -107,12 +112,15 @@ module _ (ps : List (List ℕ)) where
       go ih (inl e) = rw (e, regroup, take-append-seam) (ap at (eqb-true j i e))
       go ih (inr e) = rw (e, regroup, drop-append-seam) (ih (rw e at h))
 
-  joined-is : (falling : Bool) (n : ℕ) (hs rest : List ℕ) → hasAll n hs ≡ true → n ≤ length ps → joined falling n hs (map sizeAt hs) (octets hs ++ rest) ≡ join falling (take n ps)
+  joined-is : (order : Order) (n : ℕ) (hs rest : List ℕ) → hasAll n hs ≡ true → n ≤ length ps → joined order n hs (map sizeAt hs) (octets hs ++ rest) ≡ join order (take n ps)
   unfolding joined hasAll join
-  joined-is falling zero hs rest all le = refl
-  joined-is falling (suc n) hs rest all le =
+  joined-is order zero hs rest all le = refl
+  joined-is Rising (suc n) hs rest all le =
       let p = both (has n hs) (hasAll n hs) all in
-      rw (take-suc ps n [], joined-is falling n hs rest (p .1) (omega arith), piece-at n hs rest (p .0)) (sym (join-snoc falling (take n ps) (at n)))
+      rw (take-suc ps n [], joined-is Rising n hs rest (p .1) (omega arith), piece-at n hs rest (p .0)) (sym (join-rising (take n ps) (at n)))
+  joined-is Falling (suc n) hs rest all le =
+      let p = both (has n hs) (hasAll n hs) all in
+      rw (take-suc ps n [], joined-is Falling n hs rest (p .1) (omega arith), piece-at n hs rest (p .0)) (sym (join-falling (take n ps) (at n)))
 
   lack-ones : (n : ℕ) → lack (λ i. 1) n [] ≡ n
   unfolding lack has
@@ -205,15 +213,15 @@ module _ (ps : List (List ℕ)) where
   Represents r cell whole = r .phase ≡ Done
   Represents r cell stopped = r .phase ≡ Cancelled
 
-  unfoldable pub bundleIf : Bool → Bool → Option (List ℕ)
-  bundleIf falling b = cond b (some (join falling ps)) none
+  unfoldable pub bundleIf : Order → Bool → Option (List ℕ)
+  bundleIf order b = cond b (some (join order ps)) none
 
-  pub record Stepped (falling : Bool) (o : Outcome) (t t′ : Track) : Type 0 where
+  pub record Stepped (order : Order) (o : Outcome) (t t′ : Track) : Type 0 where
     pub stands : Represents (o .row) (o .cell) t′
-    pub gives : o .bundle ≡ bundleIf falling (newly t t′)
+    pub gives : o .bundle ≡ bundleIf order (newly t t′)
     pub sized : length (o .cell) ≡ bundleMax
 
-  module _ (falling : Bool) (few : length ps ≤ 64) (small : sumOf (map length ps) ≤ bundleMax) where
+  module _ (order : Order) (few : length ps ≤ 64) (small : sumOf (map length ps) ≤ bundleMax) where
     -- the row is complete where every piece is held
     covered : {r : Row} {cell hs : List ℕ} → Holds r cell hs → 0 < length ps → complete r ≡ hasAll (length ps) hs
     unfolding complete
@@ -229,18 +237,18 @@ module _ (ps : List (List ℕ)) where
     unfolding complete
     known-complete r e = both (r .known) (hasAll (r .last + 1) (indexesOf r)) e .0
 
-    settles : {r : Row} {cell hs : List ℕ} (js : List ℕ) → Holds r cell hs → 0 < length ps → Stepped falling (settle falling r cell) (live js) (settled (length ps) hs)
+    settles : {r : Row} {cell hs : List ℕ} (js : List ℕ) → Holds r cell hs → 0 < length ps → Stepped order (settle order r cell) (live js) (settled (length ps) hs)
     unfolding settle settled Represents bundleIf newly bundleOf
     settles {r} {cell} {hs} js h pos = go (bool (hasAll (length ps) hs))
       where
-        go : (hasAll (length ps) hs ≡ true) ⊎ (hasAll (length ps) hs ≡ false) → Stepped falling (settle falling r cell) (live js) (settled (length ps) hs)
+        go : (hasAll (length ps) hs ≡ true) ⊎ (hasAll (length ps) hs ≡ false) → Stepped order (settle order r cell) (live js) (settled (length ps) hs)
         go (inl a) =
             let k : r .known ≡ true = known-complete r (covered h pos ∙ a) in
-            let j : joined falling (r .last + 1) (indexesOf r) (lengthsOf r) cell ≡ join falling ps = rw (h .index, h .size, h .laid, add-one, h .final k, joined-is falling (length ps) hs (h .rest) a (omega arith), take-length) in
+            let j : joined order (r .last + 1) (indexesOf r) (lengthsOf r) cell ≡ join order ps = rw (h .index, h .size, h .laid, add-one, h .final k, joined-is order (length ps) hs (h .rest) a (omega arith), take-length) in
             rw (covered h pos, a) record { stands = refl; gives = ap some j; sized = h .cellSize }
         go (inr a) = rw (covered h pos, a) record { stands = h; gives = refl; sized = h .cellSize }
 
-    piece-live : (i : ℕ) {r : Row} {cell hs : List ℕ} → Holds r cell hs → i < length ps → Stepped falling (pieceStep falling (isLast ps i) i (at i) r cell) (live hs) (add (length ps) i (live hs))
+    piece-live : (i : ℕ) {r : Row} {cell hs : List ℕ} → Holds r cell hs → i < length ps → Stepped order (pieceStep order (isLast ps i) i (at i) r cell) (live hs) (add (length ps) i (live hs))
     unfolding pieceStep add judge judgeLive carryOut newly bundleIf Represents
     piece-live i {r} {cell} {hs} h i< = go (bool (has i hs))
       where
@@ -250,20 +258,20 @@ module _ (ps : List (List ℕ)) where
         e₂ : contradicts r (isLast ps i) i ≡ false
         e₂ = no-contradiction h i i<
 
-        go : (has i hs ≡ true) ⊎ (has i hs ≡ false) → Stepped falling (pieceStep falling (isLast ps i) i (at i) r cell) (live hs) (add (length ps) i (live hs))
+        go : (has i hs ≡ true) ⊎ (has i hs ≡ false) → Stepped order (pieceStep order (isLast ps i) i (at i) r cell) (live hs) (add (length ps) i (live hs))
         go (inl e) = rw (e₁, e₂, h .index, e, h .alive) record { stands = h; gives = refl; sized = h .cellSize }
         go (inr e) =
             let sum : sumOf (lengthsOf r) ≡ length (octets hs) = ap sumOf (h .size) ∙ sum-octets hs in
             let e₄ : ltb bundleMax (sumOf (lengthsOf r) + length (at i)) ≡ false = le-ltb bundleMax (sumOf (lengthsOf r) + length (at i)) (omega (arith, fits h i i< e)) in
             rw (e₁, e₂, e₄, h .index, e, h .alive) (rw sum (settles hs (holds-add h i i< e few small) (omega arith)))
 
-    pub piece-step : (i : ℕ) (r : Row) (cell : List ℕ) (t : Track) → Represents r cell t → length cell ≡ bundleMax → i < length ps → Stepped falling (pieceStep falling (isLast ps i) i (at i) r cell) t (add (length ps) i t)
+    pub piece-step : (i : ℕ) (r : Row) (cell : List ℕ) (t : Track) → Represents r cell t → length cell ≡ bundleMax → i < length ps → Stepped order (pieceStep order (isLast ps i) i (at i) r cell) t (add (length ps) i t)
     unfolding Represents pieceStep judge carryOut add newly bundleIf
     piece-step i r cell (live hs) s c i< = piece-live i s i<
     piece-step i r cell whole s c i< = rw s record { stands = refl; gives = refl; sized = c }
     piece-step i r cell stopped s c i< = rw s record { stands = refl; gives = refl; sized = c }
 
-    pub cancel-step : (r : Row) (cell : List ℕ) (t : Track) → Represents r cell t → length cell ≡ bundleMax → Stepped falling (cancelStep r cell) t (stop t)
+    pub cancel-step : (r : Row) (cell : List ℕ) (t : Track) → Represents r cell t → length cell ≡ bundleMax → Stepped order (cancelStep r cell) t (stop t)
     unfolding Represents cancelStep cancelled stop newly bundleIf
     cancel-step r cell (live hs) s c = rw (s .alive) record { stands = refl; gives = refl; sized = c }
     cancel-step r cell whole s c = rw s record { stands = refl; gives = refl; sized = c }

@@ -4,11 +4,15 @@ use mathlib.Core.List.{List, [], _∷_, map}
 use mathlib.Core.Option as Option
 use Prim.Native.Nat.{ℕ}
 use native.Mathlib.Omega.{arith}
+use Rattle.wire.specs.declared.Version.the-variants.{Draft02}
 use Rattle.wire.specs.Layout as Wire
 use Rattle.wire.specs.Reserved.{SameButReserved, same, padded, headed}
 use Rattle.window.specs.Window.{windowSize}
-use Rattle.rows.specs.Message.{draft02}
+use Rattle.rows.specs.declared.Settings.{Settings}
+use Rattle.rows.specs.State.{fresh}
+use Rattle.rows.specs.Message.{draftOf}
 use Rattle.receiver.specs.Receive.{receive}
+use Rattle.receiver.proofs.Keeping.{receive-keeps}
 use Rattle.receiver.proofs.Reserved as Receiver
 use Rattle.claims.proofs.Computing.{computing}
 use Rattle.claims.specs.Marked as Cases
@@ -17,10 +21,11 @@ use Rattle.claims.specs.Reserved.{Call, replies, none, more, ReservedIgn
 
 pub reserved-ignored : (w : ℕ) → ReservedIgnored w
 unfolding replies
-reserved-ignored w b _ _ none = refl
-reserved-ignored w b _ _ (more {f} {g} {cs} {ds} place output r rs) =
-    let e = Receiver.reserved-ignored w b r place output in
-    rw (← e) (ap (λ l. receive draft02 w b f place output ∷ l) (reserved-ignored w (receive draft02 w b f place output .board) cs ds rs))
+reserved-ignored w b z _ _ none = refl
+reserved-ignored w b z _ _ (more {f} {g} {cs} {ds} place output r rs) =
+    let e = Receiver.reserved-ignored w b z r place output in
+    let set = ap (λ (s : Settings). s .version) (receive-keeps w (draftOf (b .state)) b f place output) ∙ z in
+    rw (← e) (ap (λ l. receive w b f place output ∷ l) (reserved-ignored w (receive w b f place output .board) set cs ds rs))
 
 -- ---- an example: padding, a bundle, an end with a hint and a type that is passed over, without and with reserved bits; and H set alone
 
@@ -41,7 +46,7 @@ calls f = call 0 ∷ call 6 ∷ call 22 ∷ []
     call place = record { frame = f; place = place; output = output }
 
 unfoldable pub answers : List ℕ → List Marked
-answers f = map marked (replies windowSize freshBoard (calls f))
+answers f = map marked (replies windowSize (freshBoard Draft02) (calls f))
 
 -- With reserved bits set both bundles come out. With H set the bundle's content is walked as a hint, and the frame is refused.
 pub computed : (answers set ≡ bundleOf (65 ∷ []) 6 Option.none ∷ bundleOf (66 ∷ []) 22 (Option.some 5) ∷ finished ∷ [])
@@ -50,8 +55,8 @@ unfolding answers replies computing Cases.output Cases.freshBoard Cases.markedAs
 computed = (refl, refl)
 
 same-answers : {f g : List ℕ} → SameButReserved f g → answers f ≡ answers g
-unfolding answers
-same-answers r = ap (map marked) (reserved-ignored windowSize freshBoard _ _ (more 0 output r (more 6 output r (more 22 output r none))))
+unfolding answers freshBoard fresh
+same-answers r = ap (map marked) (reserved-ignored windowSize (freshBoard Draft02) refl _ _ (more 0 output r (more 6 output r (more 22 output r none))))
 
 pub set-bits : SameButReserved plain set
 unfolding Wire.lengthField

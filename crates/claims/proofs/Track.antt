@@ -11,6 +11,7 @@ use borrow.Author.Tests.{eqb-true, eqb-false, eq-eqb}
 use Rattle.octets.proofs.Flags.{bool}
 use Rattle.wire.specs.Message.{Message, skipped, bundle, segment, last, cancel}
 use Rattle.window.specs.Window.{distance}
+use Rattle.pieces.specs.declared.Order.{Order}
 use Rattle.pieces.specs.Pieces.{has, hasAll}
 use Rattle.rows.specs.declared.Origin.the-variants.{Whole, Transfer}
 use Rattle.claims.specs.Record.{Transfers, numberAt}
@@ -99,11 +100,11 @@ event first (segment t i d) = comes (distance first t) i
 event first (last t i d) = comes (distance first t) i
 event first (cancel t) = stops (distance first t)
 
-unfoldable pub bundleAt : Bool → Transfers → ℕ → Delivery
-bundleAt falling T k = delivery (Transfer (numberAt T k)) (join falling (T .pieces k))
+unfoldable pub bundleAt : Order → Transfers → ℕ → Delivery
+bundleAt order T k = delivery (Transfer (numberAt T k)) (join order (T .pieces k))
 
 -- a board of window w over a record's transfers
-module _ (falling : Bool) (w : ℕ) (T : Transfers) where
+module _ (order : Order) (w : ℕ) (T : Transfers) where
   abbrev pub grown : Course → ℕ → ℕ → Track
   grown a k i = add (length (T .pieces k)) i (a .tracks k)
 
@@ -116,7 +117,7 @@ module _ (falling : Bool) (w : ℕ) (T : Transfers) where
   unfoldable pub handsOut : Course → Event → List Delivery
   handsOut a quiet = []
   handsOut a (hands c) = delivery Whole c ∷ []
-  handsOut a (comes k i) = cond (leb (a .bound) (k + w) && newly (a .tracks k) (grown a k i)) (bundleAt falling T k ∷ []) []
+  handsOut a (comes k i) = cond (leb (a .bound) (k + w) && newly (a .tracks k) (grown a k i)) (bundleAt order T k ∷ []) []
   handsOut a (stops k) = []
 
   abbrev pub next : Course → Message → Course

@@ -6,6 +6,7 @@ use Prim.Native.Nat.{ℕ}
 use native.Mathlib.Omega.{arith}
 use lib.ListN.{replicate}
 use Rattle.octets.specs.Octets.{be32, put}
+use Rattle.wire.specs.declared.Version.the-variants.{Draft00, Draft02}
 use Rattle.wire.specs.Message.{bundle, segment, last, cancel, kind, contentLength}
 use Rattle.writing.specs.Written.{header, contentOf, written, piece, padding}
 use Rattle.framing.specs.Placing as Framing
@@ -14,7 +15,8 @@ use Rattle.sender.specs.Sound as Sound
 use Rattle.sender.specs.Calls as Sender
 use Rattle.rows.specs.declared.Origin.the-variants.{Whole, Transfer}
 use Rattle.window.specs.Window.{windowSize}
-use Rattle.rows.specs.Message.{draft02, Board, Handed}
+use Rattle.rows.specs.Message.{Board, Handed}
+use Rattle.receiver.specs.Receive.{receive}
 use Rattle.claims.specs.Calls.{Fresh, Entry, handedOf, Calls}
 use Rattle.claims.specs.Demand3.{delivery}
 use Rattle.claims.specs.Use.{isReady, isPlaced, taken, finished, toCancel, outcomeOf, Used, started, placing, cancelling, flushing, refusing}
@@ -29,26 +31,26 @@ short = 1 ∷ 2 ∷ 3 ∷ []
 
 unfoldable pub frames : List (List ℕ)
 frames =
-    written (segment 4294967295 0 (replicate 116 65))
-    ∷ (written (cancel 4294967295) ++ written (segment 0 0 (replicate 108 65)))
-    ∷ (written (last 0 1 (replicate 17 65)) ++ written (bundle short) ++ padding 92)
+    written Draft02 (segment 4294967295 0 (replicate 116 65))
+    ∷ (written Draft02 (cancel 4294967295) ++ written Draft02 (segment 0 0 (replicate 108 65)))
+    ∷ (written Draft02 (last 0 1 (replicate 17 65)) ++ written Draft02 (bundle short) ++ padding 92)
     ∷ []
 
 unfoldable pub bundles : List Handed
 bundles = record { origin = Transfer 0; octets = long } ∷ record { origin = Whole; octets = short } ∷ []
 
-pub used : Flushed frames bundles
+pub used : Flushed Draft02 frames bundles
 unfolding long short frames bundles be32 put kind contentLength header contentOf written piece padding unless isRefusal Sound.sound Sender.start Sender.place Sender.placeCases Sender.cancel Sender.cancelCases Sender.flush Sender.flushCases Framing.placing Framing.placePiece Framing.added Framing.advanced Framing.closed isReady isPlaced taken finished outcomeOf
 used =
-    let begun : Used 128 4294967295 _ _ long _ [] = placing long (λ _. refl) (started {s = Sender.fresh 128 4294967295} (replicate 128 7) long refl) in
-    let again : Used 128 4294967295 _ _ long _ [] = placing long (λ _. refl) (refusing toCancel [] refl (cancelling begun)) in
+    let begun : Used Draft02 128 4294967295 _ _ long _ [] = placing long (λ _. refl) (started {s = Sender.fresh Draft02 128 4294967295} (replicate 128 7) long refl) in
+    let again : Used Draft02 128 4294967295 _ _ long _ [] = placing long (λ _. refl) (refusing toCancel [] refl (cancelling begun)) in
     let ended = placing long (λ _. refl) again in
     record {
       size = 128;
       first = 4294967295;
       numbered = omega arith;
-      state = Sender.fresh 128 1;
-      frame = written (last 0 1 (replicate 17 65)) ++ written (bundle short) ++ padding 92;
+      state = Sender.fresh Draft02 128 1;
+      frame = written Draft02 (last 0 1 (replicate 17 65)) ++ written Draft02 (bundle short) ++ padding 92;
       lent = short;
       used = flushing (placing short (λ e. absurd (false≢true e)) ended);
       empty = refl;
@@ -56,7 +58,37 @@ used =
     }
 
 -- any fresh board that takes these frames hands out both bundles, and the cancelled one not
-pub both-arrive : (b : Board) → Fresh windowSize b → (es : List Entry) → Calls draft02 windowSize b es → map (λ (e : Entry). e .frame) es ≡ frames
+pub both-arrive : (b : Board) → Fresh Draft02 windowSize b → (es : List Entry) → Calls (receive windowSize) b es → map (λ (e : Entry). e .frame) es ≡ frames
     → handedOf es ≡ delivery (Transfer 0) long ∷ delivery Whole short ∷ []
 unfolding bundles
-both-arrive = demand2 .arrives frames bundles used
+both-arrive = demand2 Draft02 .arrives frames bundles used
+
+-- ---- draft 00: the start comes first, with the highest index, and the last piece has index 0
+
+unfoldable pub frames00 : List (List ℕ)
+frames00 = written Draft00 (last 4294967295 1 (replicate 116 65)) ∷ (written Draft00 (segment 4294967295 0 (replicate 9 65)) ++ written Draft00 (bundle short) ++ padding 100) ∷ []
+
+unfoldable pub bundles00 : List Handed
+bundles00 = record { origin = Transfer 4294967295; octets = long } ∷ record { origin = Whole; octets = short } ∷ []
+
+pub used00 : Flushed Draft00 frames00 bundles00
+unfolding long short frames00 bundles00 be32 put kind contentLength header contentOf written piece padding unless isRefusal Sound.sound Sender.start Sender.place Sender.placeCases Sender.flush Sender.flushCases Framing.placing Framing.placePiece Framing.added Framing.advanced Framing.closed isReady isPlaced taken finished
+used00 =
+    let begun : Used Draft00 128 4294967295 _ _ long _ [] = placing long (λ _. refl) (started {s = Sender.fresh Draft00 128 4294967295} (replicate 128 7) long refl) in
+    let ended = placing long (λ _. refl) begun in
+    record {
+      size = 128;
+      first = 4294967295;
+      numbered = omega arith;
+      state = Sender.fresh Draft00 128 0;
+      frame = written Draft00 (segment 4294967295 0 (replicate 9 65)) ++ written Draft00 (bundle short) ++ padding 100;
+      lent = short;
+      used = flushing (placing short (λ e. absurd (false≢true e)) ended);
+      empty = refl;
+      idle = refl;
+    }
+
+pub both-arrive00 : (b : Board) → Fresh Draft00 windowSize b → (es : List Entry) → Calls (receive windowSize) b es → map (λ (e : Entry). e .frame) es ≡ frames00
+    → handedOf es ≡ delivery (Transfer 4294967295) long ∷ delivery Whole short ∷ []
+unfolding bundles00
+both-arrive00 = demand2 Draft00 .arrives frames00 bundles00 used00

@@ -1,23 +1,26 @@
--- Demand 2 (document 01, "Sending calls" and "Receiving call"): what a sender's frames yield at a fresh board of window w.
+-- Demand 2 (document 01, "Sending calls" and "Receiving call"): what a sender's frames yield at a fresh board of the same draft, of
+-- window w.
 use mathlib.Core.Path.{_≡_}
 use mathlib.Core.Bool.{false}
 use mathlib.Core.List.{List, map}
 use Prim.Native.Nat.{ℕ, _<_, _^_}
+use Rattle.wire.specs.declared.Version.{Version}
 use Rattle.framing.specs.declared.State.{State}
-use Rattle.rows.specs.Message.{draft02, Board, Handed}
+use Rattle.rows.specs.Message.{Board, Handed}
+use Rattle.receiver.specs.Receive.{receive}
 use Rattle.claims.specs.Calls.{Fresh, Entry, handedOf, Calls}
 use Rattle.claims.specs.Demand3.{delivery}
 use Rattle.claims.specs.Use.{Used}
 
 -- A use that "flushes last, with nothing begun": fs are the frames taken, bs the bundles placed to their end.
-pub record Flushed (fs : List (List ℕ)) (bs : List Handed) : Type 0 where
+pub record Flushed (v : Version) (fs : List (List ℕ)) (bs : List Handed) : Type 0 where
   pub size : ℕ
   pub first : ℕ
   pub numbered : first < 2 ^ 32
   pub state : State
   pub frame : List ℕ
   pub lent : List ℕ
-  pub used : Used size first state frame lent fs bs
+  pub used : Used v size first state frame lent fs bs
   pub empty : state .fill ≡ 0
   pub idle : state .begun ≡ false
 
@@ -31,5 +34,6 @@ pub record Arrival (Sends : List (List ℕ) → List Handed → Type 0) (B : Typ
   pub exists : (fs : List (List ℕ)) (bs : List Handed) → Sends fs bs → (b : B) → Started b
       → (es : List Entry) × Takes b es × (map (λ (e : Entry). e .frame) es ≡ fs)
 
-abbrev pub Demand2 : ℕ → Type 0
-Demand2 w = Arrival Flushed Board (Fresh w) (Calls draft02 w)
+-- "in it and in demand 2 sender, record and boards are of one draft" (document 02, E5)
+abbrev pub Demand2 : Version → ℕ → Type 0
+Demand2 v w = Arrival (Flushed v) Board (Fresh v w) (Calls (receive w))

@@ -1,22 +1,27 @@
--- Demand 3 (document 01, "Honest record"): one claim about two whole lists of receiving calls, over the draft and the two boards' windows.
+-- Demand 3 (document 01, "Honest record"): one claim about two whole lists of receiving calls, over the draft and the two
+-- boards' windows.
 use mathlib.Core.Path.{_≡_}
-use mathlib.Core.Bool.{Bool, cond}
 use mathlib.Core.List.{List, [], _∷_, _++_, List·Memᴰ}
 use Prim.Native.Nat.{ℕ, _+_, _-_, _≤_, _<_}
 use lib.ListN.{length}
+use Rattle.wire.specs.declared.Version.{Version}
 use Rattle.wire.specs.Message.{Message, skipped, bundle, segment, last, cancel}
-use Rattle.wire.specs.Frame.{Sized, messages}
+use Rattle.wire.specs.Frame.{messages}
 use Rattle.window.specs.Window.{distance}
+use Rattle.pieces.specs.declared.Order.{Order}
+use Rattle.pieces.specs.declared.Order.the-variants.{Rising, Falling}
 use Rattle.rows.specs.declared.Origin.{Origin}
 use Rattle.rows.specs.declared.Origin.the-variants.{Whole, Transfer}
-use Rattle.rows.specs.Message.{Draft, Board}
+use Rattle.rows.specs.Message.{Draft, draft, Board}
+use Rattle.receiver.specs.Receive.{receive}
 use Rattle.claims.specs.Record.{Transfers, numberAt, pieceAt, Record}
 use Rattle.claims.specs.Calls.{Fresh, Delivery, Entry, handedOf, Calls}
 
--- pieces joined "as 'One row' joins them": in rising order of index, or in the falling order of another draft
-unfoldable pub join : Bool → List (List ℕ) → List ℕ
-join falling [] = []
-join falling (x ∷ xs) = cond falling (join falling xs ++ x) (x ++ join falling xs)
+-- pieces, by index, joined "as 'One row' joins them": in rising order of index; in draft 00 "joining falls"
+unfoldable pub join : Order → List (List ℕ) → List ℕ
+join order [] = []
+join Rising (x ∷ xs) = x ++ join Rising xs
+join Falling (x ∷ xs) = join Falling xs ++ x
 
 -- a bundle as a call answers it
 unfoldable pub delivery : Origin → List ℕ → Delivery
@@ -42,10 +47,6 @@ NoneBehind n [] = Unit {0}
 NoneBehind n (k ∷ ks) = ((j : ℕ) → List·Memᴰ j ks → k ≤ j + n) × NoneBehind n ks
 
 module _ (D : Draft) where
-  -- The draft's messages take at least one octet, and no more than there are.
-  abbrev pub Measured : Type 0
-  Measured = (xs : List ℕ) → Sized (length xs) (D .read xs)
-
   -- "messages earlier in the same frame have come too"
   unfoldable pub messagesOf : List Entry → List Message
   messagesOf [] = []
@@ -69,7 +70,11 @@ Kept x y (same {a} {b} e f) =
     ((h : Delivery) (t : ℕ) → h .origin ≡ Transfer t → List·Memᴰ h (x ++ a .handed) → List·Memᴰ h (y ++ b .handed)) × Kept (x ++ a .handed) (y ++ b .handed) f
 Kept x y (more {b} c f) = Kept x (y ++ b .handed) f
 
-module _ {D : Draft} (R : Record D) where
+-- "in it and in demand 2 sender, record and boards are of one draft" (document 02, E5)
+module _ {v : Version} (R : Record v) where
+  abbrev D : Draft
+  D = draft v
+
   abbrev T : Transfers
   T = R .transfers
 
@@ -83,13 +88,13 @@ module _ {D : Draft} (R : Record D) where
     content : (c : List ℕ) → InRecord (bundle c) → OfRecord (delivery Whole c)
     -- "and, for each number with all its pieces, these joined as 'One row' joins them, answered with that number"
     joined : (k : ℕ) → k < T .count → 0 < length (T .pieces k) → ((i : ℕ) → i < length (T .pieces k) → InRecord (pieceAt T k i))
-        → OfRecord (delivery (Transfer (numberAt T k)) (join (D .falling) (T .pieces k)))
+        → OfRecord (delivery (Transfer (numberAt T k)) (join (D .order) (T .pieces k)))
 
   -- A fresh board of window w takes frames of the record; es are its whole list.
   pub record Reception (w : ℕ) (es : List Entry) : Type 0 where
     pub board : Board
-    pub fresh : Fresh w board
-    pub calls : Calls D w board es
+    pub fresh : Fresh v w board
+    pub calls : Calls (receive w) board es
     pub drawn : (e : Entry) → List·Memᴰ e es → List·Memᴰ (e .frame) (R .frames)
 
   -- The claim about the lists of two boards: P and Q say which lists those are, n how far behind a message may come on the second.

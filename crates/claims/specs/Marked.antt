@@ -3,13 +3,14 @@ use mathlib.Core.List.{List, [], _∷_}
 use mathlib.Core.Option.{Option, none, some}
 use Prim.Native.Nat.{ℕ}
 use lib.ListN.{take, length, replicate}
+use Rattle.wire.specs.declared.Version.{Version}
 use Rattle.window.specs.Window.{windowSize}
 use Rattle.rows.specs.declared.Origin.{Origin}
 use Rattle.rows.specs.declared.Origin.the-variants.{Whole, Transfer}
 use Rattle.receiver.specs.declared.Answer.{Answer}
 use Rattle.receiver.specs.declared.Answer.the-variants.{Delivered, Finished, Refused}
 use Rattle.rows.specs.State.{fresh}
-use Rattle.rows.specs.Message.{draft02, Board}
+use Rattle.rows.specs.Message.{Board}
 use Rattle.receiver.specs.Receive.{refusalNumber, refusalPlace, Reply, receive}
 
 -- what a call answers, by document 01's numbers
@@ -35,11 +36,11 @@ marked r = markedAs (r .answer) (r .output)
 unfoldable pub output : List ℕ
 output = replicate 4096 0
 
-unfoldable pub freshBoard : Board
-freshBoard = record { state = fresh windowSize; pool = replicate 65536 0 }
+unfoldable pub freshBoard : Version → Board
+freshBoard v = record { state = fresh v windowSize; pool = replicate 65536 0 }
 
 unfoldable pub takenFrom : Board → List ℕ → Reply
-takenFrom b frame = receive draft02 windowSize b frame 0 output
+takenFrom b frame = receive windowSize b frame 0 output
 
 -- the number of a case, its frame, and what a fresh board answers
 pub record Case : Type 0 where

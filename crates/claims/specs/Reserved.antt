@@ -1,10 +1,11 @@
 -- Request E2 of document 02: "setting any reserved bits in the headers of a frame's messages changes no answer and no state", for whole
--- lists of receiving calls, over the window size w.
+-- lists of receiving calls of a board of draft 02, over the window size w. Draft 00 has no flags.
 use mathlib.Core.Path.{_≡_}
 use mathlib.Core.List.{List, [], _∷_}
 use Prim.Native.Nat.{ℕ}
+use Rattle.wire.specs.declared.Version.the-variants.{Draft02}
 use Rattle.wire.specs.Reserved.{SameButReserved}
-use Rattle.rows.specs.Message.{draft02, Board}
+use Rattle.rows.specs.Message.{Board}
 use Rattle.receiver.specs.Receive.{Reply, receive}
 
 -- a receiving call: the frame, the place in it, and the output lent
@@ -16,7 +17,7 @@ pub record Call : Type 0 where
 -- The replies to a list of calls, each with its answer, state, pool and output; state and pool go on as the call before left them.
 unfoldable pub replies : ℕ → Board → List Call → List Reply
 replies w b [] = []
-replies w b (c ∷ cs) = let r : Reply = receive draft02 w b (c .frame) (c .place) (c .output) in r ∷ replies w (r .board) cs
+replies w b (c ∷ cs) = let r : Reply = receive w b (c .frame) (c .place) (c .output) in r ∷ replies w (r .board) cs
 
 -- the same calls, with frames that differ in reserved bits alone
 pub data SameCalls : List Call → List Call → Type 0 where
@@ -26,4 +27,4 @@ pub data SameCalls : List Call → List Call → Type 0 where
 
 -- the claim
 abbrev pub ReservedIgnored : ℕ → Type 0
-ReservedIgnored w = (b : Board) (cs ds : List Call) → SameCalls cs ds → replies w b cs ≡ replies w b ds
+ReservedIgnored w = (b : Board) → b .state .settings .version ≡ Draft02 → (cs ds : List Call) → SameCalls cs ds → replies w b cs ≡ replies w b ds

@@ -3,6 +3,7 @@ use mathlib.Core.Path.{_≡_}
 use mathlib.Core.Bool.{Bool, true, false, cond, not, _&&_}
 use mathlib.Core.List.{List, [], _∷_, _++_}
 use Prim.Native.Nat.{ℕ}
+use Rattle.wire.specs.declared.Version.{Version}
 use Rattle.framing.specs.declared.State.{State}
 use Rattle.framing.specs.Answers.{Reply, placed, placedAndReady, ready, nothing, refused, Outcome}
 use Rattle.sender.specs.Answers.{made, isRefusal}
@@ -45,20 +46,20 @@ outcomeOf (toPlace b) s d = place s b d
 outcomeOf toCancel s d = cancel s d
 outcomeOf toFlush s d = flush s d
 
--- After start with frame size p and first number n and some calls: the state, the frame buffer, the octets lent last, the frames taken and
+-- After start in draft v with frame size p and first number n and some calls: the state, the frame buffer, the octets lent last, the frames taken and
 -- the bundles placed to their end. Each call gets state and frame buffer "as they were left", and each frame is taken "when it is ready".
-pub data Used (p n : ℕ) : State → List ℕ → List ℕ → List (List ℕ) → List Handed → Type 0 where
+pub data Used (v : Version) (p n : ℕ) : State → List ℕ → List ℕ → List (List ℕ) → List Handed → Type 0 where
   -- "a sender after start": the frame buffer and the octets lent may be any
-  started : {s : State} (d b : List ℕ) → start p n ≡ made s → Used p n s d b [] []
+  started : {s : State} (d b : List ℕ) → start v p n ≡ made s → Used v p n s d b [] []
   -- "lends the same octets until a bundle is placed to its end or cancelled"
-  placing : {s : State} {d b : List ℕ} {fs : List (List ℕ)} {bs : List Handed} (a : List ℕ) → (s .begun ≡ true → a ≡ b) → Used p n s d b fs bs
-      → Used p n (place s a d .state) (place s a d .frame) a (fs ++ taken (place s a d)) (bs ++ finished s a (place s a d))
+  placing : {s : State} {d b : List ℕ} {fs : List (List ℕ)} {bs : List Handed} (a : List ℕ) → (s .begun ≡ true → a ≡ b) → Used v p n s d b fs bs
+      → Used v p n (place s a d .state) (place s a d .frame) a (fs ++ taken (place s a d)) (bs ++ finished s a (place s a d))
   -- "A cancelled bundle is not placed to its end."
-  cancelling : {s : State} {d b : List ℕ} {fs : List (List ℕ)} {bs : List Handed} → Used p n s d b fs bs
-      → Used p n (cancel s d .state) (cancel s d .frame) b (fs ++ taken (cancel s d)) bs
+  cancelling : {s : State} {d b : List ℕ} {fs : List (List ℕ)} {bs : List Handed} → Used v p n s d b fs bs
+      → Used v p n (cancel s d .state) (cancel s d .frame) b (fs ++ taken (cancel s d)) bs
   -- "Flush: f of 0 answers Nothing; otherwise it closes the frame, answer Ready."
-  flushing : {s : State} {d b : List ℕ} {fs : List (List ℕ)} {bs : List Handed} → Used p n s d b fs bs
-      → Used p n (flush s d .state) (flush s d .frame) b (fs ++ taken (flush s d)) bs
+  flushing : {s : State} {d b : List ℕ} {fs : List (List ℕ)} {bs : List Handed} → Used v p n s d b fs bs
+      → Used v p n (flush s d .state) (flush s d .frame) b (fs ++ taken (flush s d)) bs
   -- a refused call, of any octets and with any frame buffer, "changes no state and no lent memory"
   refusing : {s : State} {d b : List ℕ} {fs : List (List ℕ)} {bs : List Handed} (c : Call) (other : List ℕ)
-      → isRefusal (outcomeOf c s other .answer) ≡ true → Used p n s d b fs bs → Used p n (outcomeOf c s other .state) d b fs bs
+      → isRefusal (outcomeOf c s other .answer) ≡ true → Used v p n s d b fs bs → Used v p n (outcomeOf c s other .state) d b fs bs

@@ -8,6 +8,7 @@ use lib.ListN.{length, getD, replicate, length-replicate}
 use borrow.Author.Tests.{ne-eqb}
 use mathlib.Core.Bool.{true}
 use Rattle.octets.specs.Octets.{Octets}
+use Rattle.wire.specs.declared.Version.{Version}
 use Rattle.window.specs.Window.{windowSize, sixteen}
 use Rattle.pieces.specs.Pieces.{bundleMax}
 use Rattle.row.specs.declared.Phase.the-variants.{Free}
@@ -18,7 +19,7 @@ use Rattle.rows.specs.declared.Origin.the-variants.{Whole, Transfer}
 use Rattle.rows.specs.declared.State.{State}
 use Rattle.rows.specs.State as State
 use Rattle.rows.specs.State.{fresh}
-use Rattle.rows.specs.Message.{draft02, Board}
+use Rattle.rows.specs.Message.{draftOf, Board}
 use Rattle.rows.proofs.Rows.{getD-any}
 use Rattle.messages.specs.Run.{originNumber}
 use Rattle.receiver.specs.declared.Answer.{Answer}
@@ -28,7 +29,7 @@ use Rattle.receiver.specs.Receive.{Reply, refusal, receive}
 use Rattle.receiver.proofs.Ready.{Ready, fresh-ready, receive-ready}
 use Rattle.receiver.proofs.Refusals.{admits, refused}
 use Rattle.receiver.proofs.Calls.{refused-keeps}
-use Rattle.receiver.proofs.Bounds.{LowOrigin, draft02-low}
+use Rattle.receiver.proofs.Bounds.{LowOrigin, draft-low}
 use Rattle.images.specs.Receiver.{imageOf}
 use Rattle.images.proofs.ReceiverImages.{StateFits, state-back, image-of-is, sound-state-fits}
 use Rattle.answers.specs.Receiver.{status, report, kept}
@@ -52,21 +53,21 @@ good-of b r l = record { sound = r .sound; shaped = r .shaped; rows = r .rows; l
 pub fits : (s : State) → Good s → StateFits s
 fits s g = sound-state-fits s (g .sound) (g .rows) (g .low) λ k z h. rw (getD-any (s .rows) k z (emptyRow Free) h) (g .shaped k (omega (arith, g .rows)))
 
-pub fresh-good : Good (fresh windowSize)
+pub fresh-good : (v : Version) → Good (fresh v windowSize)
 unfolding fresh
-fresh-good =
-    let r = fresh-ready windowSize sixteen (replicate (windowSize * bundleMax) 0) (length-replicate {A = ℕ} (windowSize * bundleMax) 0) in
+fresh-good v =
+    let r = fresh-ready windowSize sixteen v (replicate (windowSize * bundleMax) 0) (length-replicate {A = ℕ} (windowSize * bundleMax) 0) in
     good-of _ r (omega arith)
 
-pub call-good : (s : State) → Good s → (pool frame : List ℕ) (place : ℕ) (output : List ℕ) → Octets frame → Good (receive draft02 windowSize (with s pool) frame place output .board .state)
-call-good s g pool frame place output low = go (refusal draft02 windowSize (with s pool) frame place output) refl
+pub call-good : (s : State) → Good s → (pool frame : List ℕ) (place : ℕ) (output : List ℕ) → Octets frame → Good (receive windowSize (with s pool) frame place output .board .state)
+call-good s g pool frame place output low = go (refusal (draftOf s) windowSize (with s pool) frame place output) refl
   where
-    go : (o : Option Refusal) → refusal draft02 windowSize (with s pool) frame place output ≡ o → Good (receive draft02 windowSize (with s pool) frame place output .board .state)
+    go : (o : Option Refusal) → refusal (draftOf s) windowSize (with s pool) frame place output ≡ o → Good (receive windowSize (with s pool) frame place output .board .state)
     go none e =
-        let a = admits draft02 windowSize (with s pool) frame place output e in
+        let a = admits (draftOf s) windowSize (with s pool) frame place output e in
         let r : Ready windowSize (with s pool) = record { sound = g .sound; shaped = g .shaped; rows = g .rows; pool = a .pool } in
-        good-of _ (receive-ready windowSize sixteen draft02 (with s pool) frame place output r) (draft02-low windowSize (with s pool) frame place output low (g .low))
-    go (some q) e = rw (refused draft02 windowSize (with s pool) frame place output q e) g
+        good-of _ (receive-ready windowSize sixteen (draftOf s) (with s pool) frame place output r) (draft-low windowSize (s .settings .version) (with s pool) frame place output low (g .low))
+    go (some q) e = rw (refused (draftOf s) windowSize (with s pool) frame place output q e) g
 
 -- ---- the number of a bundle reads back
 
@@ -79,7 +80,7 @@ origin-back (Transfer t) l = rw (ne-eqb t (2 ^ 32) (λ e. omega arith))
 
 module _ (s : State) (g : Good s) (pool frame : List ℕ) (place : ℕ) (output result : List ℕ) where
   abbrev r : Reply
-  r = receive draft02 windowSize (with s pool) frame place output
+  r = receive windowSize (with s pool) frame place output
 
   abbrev e : Exported
   e = received (imageOf s) pool frame place output result
@@ -95,7 +96,7 @@ module _ (s : State) (g : Good s) (pool frame : List ℕ) (place : ℕ) (output 
       go : (a : Answer) → r .answer ≡ a → kept a (imageOf s) (r .board .state) ≡ imageOf (r .board .state)
       go (Delivered n next o) q = refl
       go Finished q = refl
-      go (Refused f) q = rw (refused-keeps draft02 windowSize (with s pool) frame place output f q)
+      go (Refused f) q = rw (refused-keeps (draftOf s) windowSize (with s pool) frame place output f q)
 
   pub pool-left : e .pool ≡ r .board .pool
   unfolding exported

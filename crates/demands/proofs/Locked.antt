@@ -14,7 +14,7 @@ use Rattle.pieces.specs.Pieces.{bundleMax}
 use Rattle.rows.specs.declared.State as Row
 use Rattle.rows.specs.State as Rows
 use Rattle.rows.specs.State.{fresh}
-use Rattle.rows.specs.Message.{draft02}
+use Rattle.rows.specs.Message.{draftOf}
 use Rattle.receiver.specs.declared.Answer.{Answer}
 use Rattle.receiver.specs.declared.Answer.the-variants.{Delivered, Finished, Refused}
 use Rattle.receiver.specs.Receive.{receive}
@@ -57,18 +57,18 @@ record OnReceiver (image : List ℕ) : Type 0 where
 
 receiver-on : {image : List ℕ} → Boards.Reached image → OnReceiver image
 unfolding Receiving.started
-receiver-on Boards.started = record { state = fresh windowSize; on = refl; good = fresh-good }
+receiver-on (Boards.started v) = record { state = fresh v windowSize; on = refl; good = fresh-good v }
 receiver-on (Boards.called {image} pool frame place output result low u) =
     let k = receiver-on u in
     record {
-      state = receive draft02 windowSize (with (k .state) pool) frame place output .board .state;
+      state = receive windowSize (with (k .state) pool) frame place output .board .state;
       on = ap (λ (i : List ℕ). received i pool frame place output result .image) (k .on) ∙ Images.image-left (k .state) (k .good) pool frame place output result;
       good = call-good (k .state) (k .good) pool frame place output low;
     }
 receiver-on (Boards.burst {image} pool sizes octets frame place l result low short long u) =
     let k = receiver-on u in
     record {
-      state = receiveBurst draft02 windowSize (with (k .state) pool) sizes octets frame place l .board .state;
+      state = receiveBurst (draftOf (k .state)) windowSize (with (k .state) pool) sizes octets frame place l .board .state;
       on = ap (λ (i : List ℕ). burst i pool sizes octets frame place l result .image) (k .on) ∙ Bursts.image-left (k .state) (k .good) pool sizes octets frame place l result;
       good = Bursts.burst-good (k .state) (k .good) pool sizes octets frame place l result low short long;
     }
@@ -80,13 +80,13 @@ receiver-sound s g = rw (ReceiverImages.image-of-is s (fits s g), ReceiverImages
 receive-taken : (s : Row.State) → Images.Good s → (pool frame : List ℕ) (place : ℕ) (output result : List ℕ)
     → numberIn (received (Receiver.imageOf s) pool frame place output result .status) ≡ 1 → ⊥
 receive-taken s g pool frame place output result e =
-    go (receive draft02 windowSize (with s pool) frame place output .answer) refl (rw (Images.status-is s g pool frame place output result) at e)
+    go (receive windowSize (with s pool) frame place output .answer) refl (rw (Images.status-is s g pool frame place output result) at e)
   where
-    go : (a : Answer) → receive draft02 windowSize (with s pool) frame place output .answer ≡ a → numberIn (Answers.status a) ≡ 1 → ⊥
+    go : (a : Answer) → receive windowSize (with s pool) frame place output .answer ≡ a → numberIn (Answers.status a) ≡ 1 → ⊥
     go (Delivered n next o) q e = omega arith
     go Finished q e = omega arith
     go (Refused f) q e =
-        sound-not-one draft02 windowSize (with s pool) frame place output (g .sound) f (refused-for draft02 windowSize (with s pool) frame place output f q) (sym (number-back f) ∙ e)
+        sound-not-one (draftOf s) windowSize (with s pool) frame place output (g .sound) f (refused-for (draftOf s) windowSize (with s pool) frame place output f q) (sym (number-back f) ∙ e)
 
 -- ---- the sender
 
@@ -96,7 +96,7 @@ record OnSender (image : List ℕ) : Type 0 where
   good : Sent.Good state
 
 sender-on : {image : List ℕ} → Senders.Reached image → OnSender image
-sender-on (Senders.started {image} old p n n< e) = let m = Sent.started-on p n old image n< e in record { state = m .0; on = m .2; good = m .3 }
+sender-on (Senders.started {image} v old p n n< e) = let m = Sent.started-on v p n old image n< e in record { state = m .0; on = m .2; good = m .3 }
 sender-on (Senders.called {image} c frame result u) =
     let k = sender-on u in
     record {

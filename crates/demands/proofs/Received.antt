@@ -8,6 +8,7 @@ use native.Mathlib.Omega.{arith}
 use lib.Dec.{ltb}
 use borrow.Author.Tests.{eq-eqb, le-ltb, lt-ltb}
 use lib.ListN.{length, take}
+use Rattle.wire.specs.declared.Version.{Version}
 use Rattle.wire.specs.Frame.{Item, Sized}
 use Rattle.wire.proofs.Order.{good-place}
 use Rattle.wire.proofs.Places.{taken as accepted}
@@ -15,10 +16,10 @@ use Rattle.wire.proofs.Spans.{sized}
 use Rattle.window.specs.Window.{Window, windowSize, sixteen}
 use Rattle.pieces.specs.Pieces.{bundleMax}
 use Rattle.rows.specs.declared.Origin.{Origin}
-use Rattle.rows.specs.Message.{Draft, Board, Handed, draft02, messagesFrom}
+use Rattle.rows.specs.Message.{Draft, Board, Handed, draft, messagesFrom}
 use Rattle.receiver.specs.declared.Refusal.{Refusal}
 use Rattle.receiver.specs.declared.Answer.the-variants.{Delivered, Refused}
-use Rattle.receiver.specs.Receive.{Reply, numberOf, unfit, refusal, treat, receive}
+use Rattle.receiver.specs.Receive.{Reply, numberOf, unfit, refusal, treat, receiveAs}
 use Rattle.receiver.proofs.Ready.{Ready, receive-ready, fresh-ready}
 use Rattle.receiver.proofs.Standing as Standing
 use Rattle.receiver.proofs.Standing.{at-start, at-next}
@@ -29,8 +30,9 @@ use Rattle.frames.specs.Singles.{always, Singles, over, stops, delivers, finish
 use Rattle.claims.specs.Record.{WellFormed}
 use Rattle.claims.specs.Calls as Calls
 use Rattle.claims.specs.Calls.{Delivery, Entry, handedOf, Takes, delivered, finished}
+use Rattle.claims.proofs.Taking.{calls-own}
 use Rattle.burst.specs.Equal.{Sixteen, Shaped, Given, Gave, none as gave-none, then, Continued}
-use Rattle.burst.proofs.Equal.{all-singles-02}
+use Rattle.burst.proofs.Equal.{all-singles-draft}
 use Rattle.demands.specs.Batches.{Batches, over as no-list, batch, bare, fitting, Received, BurstsReceive}
 
 module _ (D : Draft) (M : (xs : List ℕ) → Sized (length xs) (D .read xs)) (w : ℕ) (win : Window w) where
@@ -41,7 +43,7 @@ module _ (D : Draft) (M : (xs : List ℕ) → Sized (length xs) (D .read xs)) (w
     mid : Board
     count : ℕ
     used : ℕ
-    takes : Takes D w f b place ds mid
+    takes : Takes (receiveAs D w) f b place ds mid
     later : Singles D w always (k + 1) fs mid 0 count used rest ns after k′ place′
     same : hs ≡ map bare ds ++ rest
     ready : Ready w mid
@@ -50,17 +52,17 @@ module _ (D : Draft) (M : (xs : List ℕ) → Sized (length xs) (D .read xs)) (w
     abbrev At : ℕ → List Item → Type 0
     At = Standing.At D M f (F .items) (F .whole)
 
-    treats : (b : Board) (at : ℕ) (is : List Item) (output : List ℕ) → Ready w b → At at is → bundleMax ≤ length output → receive D w b f at output ≡ treat D w b is output
+    treats : (b : Board) (at : ℕ) (is : List Item) (output : List ℕ) → Ready w b → At at is → bundleMax ≤ length output → receiveAs D w b f at output ≡ treat D w b is output
     treats b at is output R A big =
         admitted D w b f at output (F .items) (R .sound) (R .pool) big (F .some) (F .small) (F .whole) (rw (A .split) (good-place at (length f) (A .front) is (A .on)))
         ∙ ap (λ (js : List Item). treat D w b js output) (A .here)
 
     -- where the next call goes on, a message stands or the frame ends
     onward : (b : Board) (at : ℕ) (is : List Item) (output : List ℕ) (size next : ℕ) (origin : Origin) → Ready w b → At at is → bundleMax ≤ length output
-        → receive D w b f at output .answer ≡ Delivered size next origin → (js : List Item) × At next js
+        → receiveAs D w b f at output .answer ≡ Delivered size next origin → (js : List Item) × At next js
     onward b at is output size next origin R A big a = go (treating D w b is output)
       where
-        r : receive D w b f at output ≡ treat D w b is output
+        r : receiveAs D w b f at output ≡ treat D w b is output
         r = treats b at is output R A big
 
         go : Treated D w b is output → (js : List Item) × At next js
@@ -76,9 +78,9 @@ module _ (D : Draft) (M : (xs : List ℕ) → Sized (length xs) (D .read xs)) (w
     part (delivers {place = place} {b = b} output n next origin big free a s) R is A =
         let j = onward b place is output n next origin R A big a in
         let p = part s (receive-ready w win D b f place output R) (j .0) (j .1) in
-        record { ds = record { origin = origin; size = n; octets = take n (receive D w b f place output .output) } ∷ p .ds; rest = p .rest; mid = p .mid; count = p .count; used = p .used; takes = delivered output n next origin a (p .takes); later = p .later; same = ap (λ (l : List Handed). record { origin = origin; octets = take n (receive D w b f place output .output) } ∷ l) (p .same); ready = p .ready }
+        record { ds = record { origin = origin; size = n; octets = take n (receiveAs D w b f place output .output) } ∷ p .ds; rest = p .rest; mid = p .mid; count = p .count; used = p .used; takes = delivered output n next origin a (p .takes); later = p .later; same = ap (λ (l : List Handed). record { origin = origin; octets = take n (receiveAs D w b f place output .output) } ∷ l) (p .same); ready = p .ready }
     part (finishes {place = place} {count} {used} {b = b} output big free a s) R is A =
-        record { ds = []; rest = _; mid = receive D w b f place output .board; count = count; used = used; takes = finished output a; later = s; same = refl; ready = receive-ready w win D b f place output R }
+        record { ds = []; rest = _; mid = receiveAs D w b f place output .board; count = count; used = used; takes = finished output a; later = s; same = refl; ready = receive-ready w win D b f place output R }
     part (refuses {place = place} {b = b} output q big free a s) R is A = treat-answers D w b is output q (sym (ap (λ (y : Reply). y .answer) (treats b place is output R A big)) ∙ a)
 
   module _ (b : Board) (f output : List ℕ) (R : Ready w b) (big : bundleMax ≤ length output) where
@@ -87,14 +89,14 @@ module _ (D : Draft) (M : (xs : List ℕ) → Sized (length xs) (D .read xs)) (w
     unfolding refusal
     for-itself = rw (R .sound, eq-eqb (length (b .pool)) (w * bundleMax) (R .pool), le-ltb (length output) bundleMax big)
 
-    not-refused : ((q : Refusal) → receive D w b f 0 output .answer ≡ Refused q → ⊥) → unfit D f 0 ≡ none
+    not-refused : ((q : Refusal) → receiveAs D w b f 0 output .answer ≡ Refused q → ⊥) → unfit D f 0 ≡ none
     not-refused never = go (unfit D f 0) refl
       where
         go : (o : Option Refusal) → unfit D f 0 ≡ o → unfit D f 0 ≡ none
         go none e = e
         go (some q) e = absurd (never q (ap (λ (y : Reply). y .answer) (refused D w b f 0 output q (for-itself ∙ e))))
 
-    is-refused : (q : Refusal) → receive D w b f 0 output .answer ≡ Refused q → 0 < numberOf (unfit D f 0)
+    is-refused : (q : Refusal) → receiveAs D w b f 0 output .answer ≡ Refused q → 0 < numberOf (unfit D f 0)
     is-refused q a = go (unfit D f 0) refl
       where
         go : (o : Option Refusal) → unfit D f 0 ≡ o → 0 < numberOf (unfit D f 0)
@@ -110,7 +112,7 @@ module _ (D : Draft) (M : (xs : List ℕ) → Sized (length xs) (D .read xs)) (w
   -- all frames of a list, taken or refused, and whatever calls follow
   record AllTaken (fs : List (List ℕ)) (b : Board) (hs : List Handed) (after : Board) : Type 0 where
     entries : List Entry
-    calls : (es : List Entry) → Calls.Calls D w after es → Calls.Calls D w b (entries ++ es)
+    calls : (es : List Entry) → Calls.Calls (receiveAs D w) after es → Calls.Calls (receiveAs D w) b (entries ++ es)
     same : hs ≡ map bare (handedOf entries)
     taken : map (λ (e : Entry). e .frame) entries ≡ fitting D fs
     ready : Ready w after
@@ -132,7 +134,7 @@ module _ (D : Draft) (M : (xs : List ℕ) → Sized (length xs) (D .read xs)) (w
         ready = r .ready;
       }
 
-  refused-first : (f : List ℕ) (fs : List (List ℕ)) (b after : Board) (hs : List Handed) (output : List ℕ) (q : Refusal) → 0 < numberOf (unfit D f 0) → receive D w b f 0 output .answer ≡ Refused q
+  refused-first : (f : List ℕ) (fs : List (List ℕ)) (b after : Board) (hs : List Handed) (output : List ℕ) (q : Refusal) → 0 < numberOf (unfit D f 0) → receiveAs D w b f 0 output .answer ≡ Refused q
       → AllTaken fs b hs after → AllTaken (f ∷ fs) b hs after
   unfolding fitting
   refused-first f fs b after hs output q n a r = record {
@@ -171,24 +173,24 @@ unfolding handedOf
 handed-append [] es′ = refl
 handed-append (e ∷ es) es′ = ap (λ (l : List Delivery). e .handed ++ l) (handed-append es es′) ∙ sym (append-assoc (e .handed) (handedOf es) (handedOf es′))
 
-fitting-append : (fs fs′ : List (List ℕ)) → fitting draft02 (fs ++ fs′) ≡ fitting draft02 fs ++ fitting draft02 fs′
+fitting-append : (D : Draft) (fs fs′ : List (List ℕ)) → fitting D (fs ++ fs′) ≡ fitting D fs ++ fitting D fs′
 unfolding fitting
-fitting-append [] fs′ = refl
-fitting-append (f ∷ fs) fs′ = go (ltb 0 (numberOf (unfit draft02 f 0))) (fitting-append fs fs′)
+fitting-append D [] fs′ = refl
+fitting-append D (f ∷ fs) fs′ = go (ltb 0 (numberOf (unfit D f 0))) (fitting-append D fs fs′)
   where
-    go : (b : Bool) → fitting draft02 (fs ++ fs′) ≡ fitting draft02 fs ++ fitting draft02 fs′
-        → cond b (fitting draft02 (fs ++ fs′)) (f ∷ fitting draft02 (fs ++ fs′)) ≡ cond b (fitting draft02 fs) (f ∷ fitting draft02 fs) ++ fitting draft02 fs′
+    go : (b : Bool) → fitting D (fs ++ fs′) ≡ fitting D fs ++ fitting D fs′
+        → cond b (fitting D (fs ++ fs′)) (f ∷ fitting D (fs ++ fs′)) ≡ cond b (fitting D fs) (f ∷ fitting D fs) ++ fitting D fs′
     go true later = later
     go false later = ap (λ (l : List (List ℕ)). f ∷ l) later
 
-shaped : {b : Board} → Ready windowSize b → Shaped draft02 windowSize b
-shaped R = record { rows = R .rows; indexes = λ r r<. R .shaped r r< .indexes64; lengths = λ r r<. R .shaped r r< .lengths64 }
+shaped : (v : Version) {b : Board} → Ready windowSize b → Shaped (draft v) windowSize b
+shaped v R = record { rows = R .rows; indexes = λ r r<. R .shaped r r< .indexes64; lengths = λ r r<. R .shaped r r< .lengths64 }
 
-one-list : (sizes octets : List ℕ) (b mid : Board) (gs gs′ : List Given) (fs : List (List ℕ)) → Sixteen sizes → Ready windowSize b → Continued draft02 windowSize sizes octets b 0 0 gs mid
-    → (Ready windowSize mid → Received mid gs′ fs) → Received b (gs ++ gs′) (framesOf sizes octets ++ fs)
-one-list sizes octets b mid gs gs′ fs short R c later =
-    let x = all-singles-02 sizes octets b mid gs (shaped R) short c in
-    let t = all-taken draft02 sized windowSize sixteen (framesOf sizes octets) 0 0 0 (length sizes) 0 b mid (x .0) (x .1) (x .3) R in
+one-list : (v : Version) (sizes octets : List ℕ) (b mid : Board) (gs gs′ : List Given) (fs : List (List ℕ)) → Sixteen sizes → Ready windowSize b → Continued (draft v) windowSize sizes octets b 0 0 gs mid
+    → (Ready windowSize mid → Received v (receiveAs (draft v) windowSize) mid gs′ fs) → Received v (receiveAs (draft v) windowSize) b (gs ++ gs′) (framesOf sizes octets ++ fs)
+one-list v sizes octets b mid gs gs′ fs short R c later =
+    let x = all-singles-draft v sizes octets b mid gs (shaped v R) short c in
+    let t = all-taken (draft v) (sized v) windowSize sixteen (framesOf sizes octets) 0 0 0 (length sizes) 0 b mid (x .0) (x .1) (x .3) R in
     let r = later (t .ready) in
     let all : map bare (handedOf (t .entries ++ r .entries)) ≡ x .0 ++ map bare (handedOf (r .entries)) =
     ap (map bare) (handed-append (t .entries) (r .entries)) ∙ map-append bare (handedOf (t .entries)) (handedOf (r .entries)) ∙ ap (λ (l : List Handed). l ++ map bare (handedOf (r .entries))) (sym (t .same)) in
@@ -200,14 +202,16 @@ one-list sizes octets b mid gs gs′ fs short R c later =
       taken =
           map-append (λ (e : Entry). e .frame) (t .entries) (r .entries)
           ∙ ap (λ (l : List (List ℕ)). l ++ map (λ (e : Entry). e .frame) (r .entries)) (t .taken)
-          ∙ ap (λ (l : List (List ℕ)). fitting draft02 (framesOf sizes octets) ++ l) (r .taken)
-          ∙ sym (fitting-append (framesOf sizes octets) fs);
+          ∙ ap (λ (l : List (List ℕ)). fitting (draft v) (framesOf sizes octets) ++ l) (r .taken)
+          ∙ sym (fitting-append (draft v) (framesOf sizes octets) fs);
     }
 
-received : {b : Board} {gs : List Given} {fs : List (List ℕ)} → Batches b gs fs → Ready windowSize b → Received b gs fs
+received : (v : Version) {b : Board} {gs : List Given} {fs : List (List ℕ)} → Batches v b gs fs → Ready windowSize b → Received v (receiveAs (draft v) windowSize) b gs fs
 unfolding handedOf fitting
-received no-list R = record { entries = []; notes = []; calls = Calls.over; gave = gave-none; taken = refl }
-received (batch {b} {mid} {gs} {gs′} {fs} sizes octets short c bs) R = one-list sizes octets b mid gs gs′ fs short R c (λ R₁. received bs R₁)
+received v no-list R = record { entries = []; notes = []; calls = Calls.over; gave = gave-none; taken = refl }
+received v (batch {b} {mid} {gs} {gs′} {fs} sizes octets short c bs) R = one-list v sizes octets b mid gs gs′ fs short R c (λ R₁. received v bs R₁)
 
 pub bursts-receive : BurstsReceive
-bursts-receive b gs fs F bs = received bs (rw (← F .started) at (fresh-ready windowSize sixteen (b .pool) (F .pooled)))
+bursts-receive v b gs fs F bs =
+    let r = received v bs (rw (← F .started) at (fresh-ready windowSize sixteen v (b .pool) (F .pooled))) in
+    record { entries = r .entries; notes = r .notes; calls = calls-own v windowSize F (r .calls); gave = r .gave; taken = r .taken }

@@ -10,6 +10,7 @@ use lib.Seq.{getD-set-same}
 use lib.Dec.{eqb}
 use borrow.Author.Tests.{ne-eqb}
 use Rattle.octets.specs.Octets.{Octets}
+use Rattle.wire.specs.declared.Version.{Version}
 use Rattle.rows.specs.Message.{Handed}
 use Rattle.framing.specs.declared.State.{State}
 use Rattle.framing.specs.Answers.{Reply, placed, placedAndReady, ready, nothing, refused, Outcome}
@@ -190,26 +191,26 @@ each-taken fs o h low f m = ⊎-elim (h f) (go (isReady (o .answer))) (List·Mem
     go true m = rw (List·Memᴰ·eq-of-singleton m) low
     go false m = absurd (List·Memᴰ·not-nil m)
 
-start-made : (p n : ℕ) (old image : List ℕ) → started old p n ≡ (0, image) → (s : State) × (start p n ≡ made s) × (image ≡ imageOf s)
+start-made : (v : Version) (p n : ℕ) (old image : List ℕ) → started v old p n ≡ (0, image) → (s : State) × (start v p n ≡ made s) × (image ≡ imageOf s)
 unfolding started startedWith start
-start-made p n old image = go (Sound.sized p)
+start-made v p n old image = go (Sound.sized p)
   where
-    go : (b : Bool) → startedWith (cond b (made (fresh p n)) (denied 14)) old ≡ (0, image) → (s : State) × (cond b (made (fresh p n)) (denied 14) ≡ made s) × (image ≡ imageOf s)
-    go true e = (fresh p n, refl, sym (ap (λ (x : ℕ × List ℕ). x .1) e))
+    go : (b : Bool) → startedWith (cond b (made (fresh v p n)) (denied 14)) old ≡ (0, image) → (s : State) × (cond b (made (fresh v p n)) (denied 14) ≡ made s) × (image ≡ imageOf s)
+    go true e = (fresh v p n, refl, sym (ap (λ (x : ℕ × List ℕ). x .1) e))
     go false e = absurd (let z : _≡_ {A = ℕ} 14 0 = ap (λ (x : ℕ × List ℕ). x .0) e in omega arith)
 
-pub started-on : (p n : ℕ) (old image : List ℕ) → n < 2 ^ 32 → started old p n ≡ (0, image) → (s : State) × (start p n ≡ made s) × (image ≡ imageOf s) × Good s
-started-on p n old image n< e =
-    let m = start-made p n old image e in
-    (m .0, m .1, m .2, record { sound = start-sound p n (m .0) (m .1); numbered = start-numbered p n (m .0) (m .1) n< })
+pub started-on : (v : Version) (p n : ℕ) (old image : List ℕ) → n < 2 ^ 32 → started v old p n ≡ (0, image) → (s : State) × (start v p n ≡ made s) × (image ≡ imageOf s) × Good s
+started-on v p n old image n< e =
+    let m = start-made v p n old image e in
+    (m .0, m .1, m .2, record { sound = start-sound v p n (m .0) (m .1); numbered = start-numbered v p n (m .0) (m .1) n< })
 
-module _ (p n : ℕ) (n< : n < 2 ^ 32) where
+module _ (v : Version) (p n : ℕ) (n< : n < 2 ^ 32) where
   abbrev OnStates : List ℕ → List ℕ → List (List ℕ) → List Handed → State → Type 0
-  OnStates d b fs bs s = Use.Used p n s d b fs bs
+  OnStates d b fs bs s = Use.Used v p n s d b fs bs
 
   -- a call that goes on
   on-call : (c : Call) (s : State) → Good s → (d b result : List ℕ) (fs : List (List ℕ)) (bs : List Handed) → length result ≡ 4 → ((b : List ℕ) → c ≡ toPlace b → Octets b) → Octets d → Each fs
-      → Use.Used p n (outcomeOf c s d .state) (outcomeOf c s d .frame) b (fs ++ Use.taken (outcomeOf c s d)) bs
+      → Use.Used v p n (outcomeOf c s d .state) (outcomeOf c s d .frame) b (fs ++ Use.taken (outcomeOf c s d)) bs
       → let e : Exported = callOf c (imageOf s) d result in
       Came (OnStates (e .frame) b (fs ++ taken e) bs) (e .image) (e .frame) (fs ++ taken e)
   on-call c s g d b result fs bs four low h each u =
@@ -235,7 +236,7 @@ module _ (p n : ℕ) (n< : n < 2 ^ 32) where
         rw (same-call (toPlace a) d result, ap (λ (i : List ℕ). finished i a (placedBy (imageOf s) a d result)) (k .on), finished-same s (k .good) (toPlace a) d result four a) h
 
     on-other : (c : Call) (result : List ℕ) → length result ≡ 4 → ((b : List ℕ) → c ≡ toPlace b → Octets b)
-        → Use.Used p n (outcomeOf c s d .state) (outcomeOf c s d .frame) b (fs ++ Use.taken (outcomeOf c s d)) bs → let e : Exported = callOf c image d result in
+        → Use.Used v p n (outcomeOf c s d .state) (outcomeOf c s d .frame) b (fs ++ Use.taken (outcomeOf c s d)) bs → let e : Exported = callOf c image d result in
         Came (OnStates (e .frame) b (fs ++ taken e) bs) (e .image) (e .frame) (fs ++ taken e)
     on-other c result four low u = rw (same-call c d result) (on-call c s (k .good) d b result fs bs four low (k .octets) (k .each) u)
 
@@ -251,10 +252,10 @@ module _ (p n : ℕ) (n< : n < 2 ^ 32) where
           is = Use.refusing c other (saw-refused s (k .good) c other result (rw e at r)) (k .is);
         }
 
-  used-on : {image d b : List ℕ} {fs : List (List ℕ)} {bs : List Handed} → Used p n image d b fs bs → Came (OnStates d b fs bs) image d fs
+  used-on : {image d b : List ℕ} {fs : List (List ℕ)} {bs : List Handed} → Used v p n image d b fs bs → Came (OnStates d b fs bs) image d fs
   unfolding callOf outcomeOf
   used-on (Senders.started {image} old d b low q) =
-      let m = started-on p n old image n< q in
+      let m = started-on v p n old image n< q in
       record { state = m .0; good = m .3; on = m .2; octets = low; each = λ f m. absurd (List·Memᴰ·not-nil m); is = Use.started d b (m .1) }
   used-on (Senders.placing a result low four same u) = on-placing _ _ _ _ _ (used-on u) a result low four same
   used-on (Senders.cancelling result four u) = let k = used-on u in on-other _ _ _ _ _ k toCancel result four (λ b e. cancel-place e) (Use.cancelling (k .is))
@@ -263,19 +264,19 @@ module _ (p n : ℕ) (n< : n < 2 ^ 32) where
 
 -- ---- the last flush
 
-pub record Sent (fs : List (List ℕ)) (bs : List Handed) : Type 0 where
-  pub flushed : States.Flushed fs bs
+pub record Sent (v : Version) (fs : List (List ℕ)) (bs : List Handed) : Type 0 where
+  pub flushed : States.Flushed v fs bs
   pub octets : Each fs
 
-pub used-states : {p n : ℕ} {image d b : List ℕ} {fs : List (List ℕ)} {bs : List Handed} → n < 2 ^ 32 → Used p n image d b fs bs → Use.Used p n (stateOf image) d b fs bs
-used-states {p} {n} n< u =
-    let c = used-on p n n< u in
+pub used-states : {v : Version} {p n : ℕ} {image d b : List ℕ} {fs : List (List ℕ)} {bs : List Handed} → n < 2 ^ 32 → Used v p n image d b fs bs → Use.Used v p n (stateOf image) d b fs bs
+used-states {v} {p} {n} n< u =
+    let c = used-on v p n n< u in
     rw (c .on, state-back (c .state) (fits (c .state) (c .good))) (c .is)
 
-pub flush-sends : (fs : List (List ℕ)) (bs : List Handed) → Flushed fs bs → Sent fs bs
+pub flush-sends : (v : Version) (fs : List (List ℕ)) (bs : List Handed) → Flushed v fs bs → Sent v fs bs
 unfolding callOf outcomeOf
-flush-sends fs bs F =
-    let c = used-on (F .size) (F .first) (F .numbered) (F .used) in
+flush-sends v fs bs F =
+    let c = used-on v (F .size) (F .first) (F .numbered) (F .used) in
     let s : State = c .state in
     let q : Exported = flushedBy (F .image) (F .frame) (F .result) in
     let same : q ≡ flushedBy (imageOf s) (F .frame) (F .result) = ap (λ (i : List ℕ). flushedBy i (F .frame) (F .result)) (c .on) in

@@ -6,6 +6,7 @@ use Prim.Native.Nat.{ℕ, _*_, _^_}
 use lib.ListN.{length, getD, take}
 use lib.Dec.{eqb}
 use Rattle.octets.specs.Octets.{Octets}
+use Rattle.wire.specs.declared.Version.{Version}
 use Rattle.window.specs.Window.{windowSize}
 use Rattle.pieces.specs.Pieces.{bundleMax}
 use Rattle.rows.specs.declared.Origin.{Origin}
@@ -21,9 +22,10 @@ pub record Board : Type 0 where
   pub image : List ℕ
   pub pool : List ℕ
 
--- "A fresh board": the image as `btpu_receiver_start` leaves it, "and a pool of any octets"
-pub record Fresh (b : Board) : Type 0 where
-  pub started : b .image ≡ Exported.started
+-- "A fresh board", "set to one draft at start" (document 02, E5): the image as `btpu_receiver_start` leaves it, or `btpu_receiver_start_00`, "and a
+-- pool of any octets"
+pub record Fresh (v : Version) (b : Board) : Type 0 where
+  pub started : b .image ≡ Exported.started v
   pub pooled : length (b .pool) ≡ windowSize * bundleMax
 
 -- `btpu_receive` with a frame, a place, an output and a result
@@ -75,9 +77,9 @@ pub data Calls : Board → List Entry → Type 0 where
       → (call b other place output result .status ≡ 0 → ⊥)
       → Calls (left (call b other place output result)) es → Calls b es
 
--- An image after start and any receiving calls and bursts, refused ones too, with frames of octets and any pools.
+-- An image after a start and any receiving calls and bursts, refused ones too, with frames of octets and any pools.
 pub data Reached : List ℕ → Type 0 where
-  started : Reached Exported.started
+  started : (v : Version) → Reached (Exported.started v)
   called : {image : List ℕ} (pool frame : List ℕ) (place : ℕ) (output result : List ℕ) → Octets frame → Reached image
       → Reached (received image pool frame place output result .image)
   burst : {image : List ℕ} (pool sizes octets : List ℕ) (frame place : ℕ) (l : Lists) (result : List ℕ) → Octets octets → Sixteen sizes → Long l → Reached image

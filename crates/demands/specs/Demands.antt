@@ -4,9 +4,11 @@ use mathlib.Core.List.{List, List·Memᴰ}
 use Prim.Native.Nat.{ℕ, _-_, _<_, _^_}
 use lib.ListN.{getD}
 use Rattle.octets.specs.Octets.{Octets}
+use Rattle.wire.specs.declared.Version.{Version}
 use Rattle.window.specs.Window.{windowSize}
 use Rattle.rows.specs.Message as Rows
-use Rattle.rows.specs.Message.{draft02, Handed}
+use Rattle.rows.specs.Message.{draftOf, Handed}
+use Rattle.receiver.specs.Receive.{receive}
 use Rattle.images.specs.Receiver as Receiver
 use Rattle.images.specs.Sender as Sender
 use Rattle.answers.specs.Receiver.{numberIn}
@@ -31,19 +33,19 @@ use Rattle.demands.specs.Senders.{Used, Flushed, callOf}
 -- ---- Demand 3
 
 -- A fresh board takes frames of the record; es are its whole list.
-pub record Reception (R : Record draft02) (es : List Entry) : Type 0 where
+pub record Reception {v : Version} (R : Record v) (es : List Entry) : Type 0 where
   pub board : Board
-  pub fresh : Fresh board
+  pub fresh : Fresh v board
   pub calls : Calls board es
   pub drawn : (e : Entry) → List·Memᴰ e es → List·Memᴰ (e .frame) (R .frames)
 
-abbrev pub Demand3 : Record draft02 → Type 0
+abbrev pub Demand3 : {v : Version} → Record v → Type 0
 Demand3 R = Claim R (Reception R) (Reception R) (windowSize - 1)
 
 -- ---- Demand 2
 
-abbrev pub Demand2 : Type 0
-Demand2 = Arrival Flushed Board Fresh Calls
+abbrev pub Demand2 : Version → Type 0
+Demand2 v = Arrival (Flushed v) Board (Fresh v) Calls
 
 -- ---- a row of exported calls on images is the row of calls on states
 
@@ -51,11 +53,11 @@ abbrev pub onState : Board → Rows.Board
 onState b = record { state = Receiver.stateOf (b .image); pool = b .pool }
 
 pub record SameCalls : Type 0 where
-  pub toStates : (b : Board) → Fresh b → (es : List Entry) → Calls b es → States.Calls draft02 windowSize (onState b) es
-  pub toImages : (b : Board) → Fresh b → (es : List Entry) → ((e : Entry) → List·Memᴰ e es → Octets (e .frame))
-      → States.Calls draft02 windowSize (onState b) es → Calls b es
-  pub usedStates : {p n : ℕ} {image d b : List ℕ} {fs : List (List ℕ)} {bs : List Handed} → n < 2 ^ 32
-      → Used p n image d b fs bs → Use.Used p n (Sender.stateOf image) d b fs bs
+  pub toStates : (v : Version) (b : Board) → Fresh v b → (es : List Entry) → Calls b es → States.Calls (receive windowSize) (onState b) es
+  pub toImages : (v : Version) (b : Board) → Fresh v b → (es : List Entry) → ((e : Entry) → List·Memᴰ e es → Octets (e .frame))
+      → States.Calls (receive windowSize) (onState b) es → Calls b es
+  pub usedStates : {v : Version} {p n : ℕ} {image d b : List ℕ} {fs : List (List ℕ)} {bs : List Handed} → n < 2 ^ 32
+      → Used v p n image d b fs bs → Use.Used v p n (Sender.stateOf image) d b fs bs
 
 -- ---- after start no call is refused with 1, whatever calls came between
 
@@ -75,5 +77,5 @@ ExportedBursts =
     (image : List ℕ) → Boards.Reached image → (pool sizes octets : List ℕ) (k place : ℕ) (l : Lists) (result : List ℕ) → Octets octets → Sixteen sizes → Long l
     → let e : Bursts.Exported = burst image pool sizes octets k place l result in
     e .status ≡ 0
-    → Equals draft02 windowSize (onState (record { image = image; pool = pool })) sizes octets k place l (onState (record { image = e .image; pool = e .pool })) (e .lists)
+    → Equals (draftOf (Receiver.stateOf image)) windowSize (onState (record { image = image; pool = pool })) sizes octets k place l (onState (record { image = e .image; pool = e .pool })) (e .lists)
     (getD (e .result) 0 0) (getD (e .result) 1 0) (getD (e .result) 2 0) (getD (e .result) 3 0) (getD (e .result) 4 0)

@@ -7,6 +7,7 @@ use Prim.Native.Nat.{ℕ, _<_, _^_}
 use lib.ListN.{length, getD, drop}
 use lib.Dec.{eqb}
 use Rattle.octets.specs.Octets.{Octets, number}
+use Rattle.wire.specs.declared.Version.{Version}
 use Rattle.rows.specs.declared.Origin.the-variants.{Whole, Transfer}
 use Rattle.rows.specs.Message.{Handed}
 use Rattle.board.specs.Sender as Exported
@@ -40,27 +41,27 @@ callOf (toPlace b) image frame result = placedBy image b frame result
 callOf toCancel image frame result = cancelledBy image frame result
 callOf toFlush image frame result = flushedBy image frame result
 
--- After `btpu_sender_start` with frame size p and first number n and some calls: the image, the frame buffer, the octets lent last, the frames
--- taken and the bundles placed to their end. Buffers and bundles are octets, and a result has four entries.
-pub data Used (p n : ℕ) : List ℕ → List ℕ → List ℕ → List (List ℕ) → List Handed → Type 0 where
+-- After `btpu_sender_start`, or `btpu_sender_start_00`, with frame size p and first number n and some calls: the image, the frame buffer, the octets
+-- lent last, the frames taken and the bundles placed to their end. Buffers and bundles are octets, and a result has four entries.
+pub data Used (v : Version) (p n : ℕ) : List ℕ → List ℕ → List ℕ → List (List ℕ) → List Handed → Type 0 where
   -- "a sender after start": the frame buffer and the octets lent may be any
-  started : {image : List ℕ} (old d b : List ℕ) → Octets d → Exported.started old p n ≡ (0, image) → Used p n image d b [] []
+  started : {image : List ℕ} (old d b : List ℕ) → Octets d → Exported.started v old p n ≡ (0, image) → Used v p n image d b [] []
   -- "lends the same octets until a bundle is placed to its end or cancelled"
   placing : {image d b : List ℕ} {fs : List (List ℕ)} {bs : List Handed} (a result : List ℕ) → Octets a → length result ≡ 4
-      → (isBegun image ≡ true → a ≡ b) → Used p n image d b fs bs
-      → Used p n (placedBy image a d result .image) (placedBy image a d result .frame) a
+      → (isBegun image ≡ true → a ≡ b) → Used v p n image d b fs bs
+      → Used v p n (placedBy image a d result .image) (placedBy image a d result .frame) a
       (fs ++ taken (placedBy image a d result)) (bs ++ finished image a (placedBy image a d result))
   -- "A cancelled bundle is not placed to its end."
-  cancelling : {image d b : List ℕ} {fs : List (List ℕ)} {bs : List Handed} (result : List ℕ) → length result ≡ 4 → Used p n image d b fs bs
-      → Used p n (cancelledBy image d result .image) (cancelledBy image d result .frame) b (fs ++ taken (cancelledBy image d result)) bs
-  flushing : {image d b : List ℕ} {fs : List (List ℕ)} {bs : List Handed} (result : List ℕ) → length result ≡ 4 → Used p n image d b fs bs
-      → Used p n (flushedBy image d result .image) (flushedBy image d result .frame) b (fs ++ taken (flushedBy image d result)) bs
+  cancelling : {image d b : List ℕ} {fs : List (List ℕ)} {bs : List Handed} (result : List ℕ) → length result ≡ 4 → Used v p n image d b fs bs
+      → Used v p n (cancelledBy image d result .image) (cancelledBy image d result .frame) b (fs ++ taken (cancelledBy image d result)) bs
+  flushing : {image d b : List ℕ} {fs : List (List ℕ)} {bs : List Handed} (result : List ℕ) → length result ≡ 4 → Used v p n image d b fs bs
+      → Used v p n (flushedBy image d result .image) (flushedBy image d result .frame) b (fs ++ taken (flushedBy image d result)) bs
   -- a refused call, of any octets and with any frame buffer
   refusing : {image d b : List ℕ} {fs : List (List ℕ)} {bs : List Handed} (c : Call) (other result : List ℕ)
-      → (callOf c image other result .status ≡ 0 → ⊥) → Used p n image d b fs bs → Used p n (callOf c image other result .image) d b fs bs
+      → (callOf c image other result .status ≡ 0 → ⊥) → Used v p n image d b fs bs → Used v p n (callOf c image other result .image) d b fs bs
 
 -- A use that "flushes last, with nothing begun": fs are the frames taken, bs the bundles placed to their end.
-pub record Flushed (fs : List (List ℕ)) (bs : List Handed) : Type 0 where
+pub record Flushed (v : Version) (fs : List (List ℕ)) (bs : List Handed) : Type 0 where
   pub size : ℕ
   pub first : ℕ
   pub numbered : first < 2 ^ 32
@@ -68,14 +69,14 @@ pub record Flushed (fs : List (List ℕ)) (bs : List Handed) : Type 0 where
   pub frame : List ℕ
   pub lent : List ℕ
   pub before : List (List ℕ)
-  pub used : Used size first image frame lent before bs
+  pub used : Used v size first image frame lent before bs
   pub idle : isBegun image ≡ false
   pub result : List ℕ
   pub four : length result ≡ 4
   pub flushed : flushedBy image frame result .status ≡ 0
   pub frames : fs ≡ before ++ taken (flushedBy image frame result)
 
--- An image after start and any sending calls, refused ones too, with any frame buffers, bundles and results.
+-- An image after a start and any sending calls, refused ones too, with any frame buffers, bundles and results.
 pub data Reached : List ℕ → Type 0 where
-  started : {image : List ℕ} (old : List ℕ) (p n : ℕ) → n < 2 ^ 32 → Exported.started old p n ≡ (0, image) → Reached image
+  started : {image : List ℕ} (v : Version) (old : List ℕ) (p n : ℕ) → n < 2 ^ 32 → Exported.started v old p n ≡ (0, image) → Reached image
   called : {image : List ℕ} (c : Call) (frame result : List ℕ) → Reached image → Reached (callOf c image frame result .image)

@@ -12,13 +12,14 @@ use borrow.Author.Tests.{eq-eqb, lt-ltb, le-ltb}
 use Rattle.octets.proofs.Flags.{cond-elim}
 use Rattle.wire.specs.Frame.{Item, Sized}
 use Rattle.window.specs.Window.{Window}
+use Rattle.pieces.specs.declared.Order.{Order}
 use Rattle.pieces.specs.Pieces.{bundleMax}
 use Rattle.rows.specs.Message.{Draft, Board, Handed, Outcome, step, messagesFrom}
 use Rattle.messages.specs.declared.Limits.{Limits}
 use Rattle.messages.specs.Run.{Run, roomy, progressed, advanced, run}
 use Rattle.receiver.specs.declared.Refusal.{Refusal}
 use Rattle.receiver.specs.declared.Answer.the-variants.{Refused}
-use Rattle.receiver.specs.Receive.{refusalNumber, numberOf, unfit, refusal, replied, receive}
+use Rattle.receiver.specs.Receive.{refusalNumber, numberOf, unfit, refusal, replied, receiveAs}
 use Rattle.receiver.proofs.Ready.{Ready}
 use Rattle.receiver.proofs.Limit.{few-messages}
 use Rattle.receiver.proofs.Refusals.{number-some, fit}
@@ -29,17 +30,17 @@ use Rattle.frames.proofs.Adding.{Adds, adds-none, adds-behind, Notes, n
 use Rattle.frames.proofs.Costs.{Priced}
 use Rattle.frames.proofs.Singly.{Fate, through as to-its-end, stopped, Came, frame-singly}
 
-module _ (w : ℕ) (falling : Bool) (limits : Limits) where
+module _ (w : ℕ) (order : Order) (limits : Limits) where
   advanced-treated : (r : Run) (b : Board) (next : ℕ) (o : Option Handed) → advanced r b next o .progress .treated ≡ r .progress .treated + 1
   unfolding advanced progressed
   advanced-treated r b next none = refl
   advanced-treated r b next (some x) = refl
 
-  run-treated : (is : List Item) (r : Run) → run w falling limits r is .progress .treated ≤ r .progress .treated + length is
+  run-treated : (is : List Item) (r : Run) → run w order limits r is .progress .treated ≤ r .progress .treated + length is
   unfolding run
   run-treated [] r = omega arith
   run-treated (i ∷ is) r =
-      let o : Outcome = step w falling (r .board) (i .message) in
+      let o : Outcome = step w order (r .board) (i .message) in
       cond-elim (λ (x : Run). x .progress .treated ≤ r .progress .treated + length (i ∷ is)) (roomy (r .progress) limits (length (r .output)))
       (λ _. omega (arith, run-treated is (advanced r (o .board) (i .next) (o .handed)), advanced-treated r (o .board) (i .next) (o .handed)))
       (λ _. omega arith)
@@ -69,8 +70,8 @@ module _ (D : Draft) (M : (xs : List ℕ) → Sized (length xs) (D .read xs)) (C
   Later fs = (r : Reach) → Stands r fs → Carried r (through D w limits r fs) fs
 
   -- a single call is refused for its frame
-  refused-call : (b : Board) (f : List ℕ) (place : ℕ) (q : Refusal) → Ready w b → unfit D f place ≡ some q → receive D w b f place spare .answer ≡ Refused q
-  unfolding receive refusal replied
+  refused-call : (b : Board) (f : List ℕ) (place : ℕ) (q : Refusal) → Ready w b → unfit D f place ≡ some q → receiveAs D w b f place spare .answer ≡ Refused q
+  unfolding receiveAs refusal replied
   refused-call b f place q R e = rw (R .sound, eq-eqb (length (b .pool)) (w * bundleMax) (R .pool), le-ltb (length spare) bundleMax big, e)
 
   module _ (f : List ℕ) (fs : List (List ℕ)) (r : Reach) (S : Stands r (f ∷ fs)) where
@@ -96,7 +97,7 @@ module _ (D : Draft) (M : (xs : List ℕ) → Sized (length xs) (D .read xs)) (C
           }
 
       abbrev mid : Run
-      mid = run w (D .falling) limits (r .run) (messagesFrom D f (r .run .progress .next))
+      mid = run w (D .order) limits (r .run) (messagesFrom D f (r .run .progress .next))
 
       -- the frame treated, to its end or not
       abbrev treatedAs : Run → Reach
@@ -137,7 +138,7 @@ module _ (D : Draft) (M : (xs : List ℕ) → Sized (length xs) (D .read xs)) (C
           let place : ℕ = r .run .progress .next in
           let c = frame-singly D w limits size f (r .frame) fs M C win spare big (r .run) (S .ready) (S .lent) e (omega (arith, S .few)) in
           let short = few-messages D M f place (fit D f place e .accepted) in
-          frame-turn c (omega (arith, S .few, run-treated w (D .falling) limits (messagesFrom D f place) (r .run), short)) (c .fate)
+          frame-turn c (omega (arith, S .few, run-treated w (D .order) limits (messagesFrom D f place) (r .run), short)) (c .fate)
 
     one : Later fs → Carried r (through D w limits r (f ∷ fs)) (f ∷ fs)
     unfolding through octetsIn

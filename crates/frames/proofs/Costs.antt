@@ -6,11 +6,12 @@ use Prim.Native.Nat.{ℕ, zero, suc, _+_, _≤_, _<_}
 use native.Mathlib.Omega.{arith}
 use lib.ListN.{length, getD, take, drop}
 use lib.Dec.{ltb, leb}
+use Rattle.wire.specs.declared.Version.{Version}
 use Rattle.wire.specs.declared.Fault.{Fault}
 use Rattle.wire.specs.declared.Kind.{Kind}
 use Rattle.wire.specs.declared.Kind.the-variants.{Skipped, Bundle, Segment, End, Cancel}
 use Rattle.wire.specs.Message.{Message, skipped, bundle, segment, last, cancel, Read, bad, good, contentLength}
-use Rattle.wire.specs.Layout.{zeros, kindOf, lengthField, Chain, overrun, behind, hints, fitting, message, content, body, bodied, headed, read}
+use Rattle.wire.specs.Layout.{zeros, kindOf, lengthField, Chain, overrun, behind, hints, fitting, message, content, body, bodied, headed, read, hinted}
 use Rattle.wire.specs.Frame.{Item, row, Sized, none, some, scanned}
 use Rattle.wire.proofs.Spans.{Holds, refused, holds-read}
 use Rattle.wire.proofs.Spans as Spans
@@ -29,7 +30,7 @@ pub data Priced : Read → Type 0 where
   unpriced : {r : Fault} → Priced (bad r)
   priced : {m : Message} {s : ℕ} → payload m ≤ s → fee m ≤ s → Priced (good m s)
 
--- ---- draft 02
+-- ---- both drafts
 
 data Heavy : Read → Type 0 where
   light : {r : Fault} → Heavy (bad r)
@@ -60,15 +61,15 @@ heavy-body Segment c s h = heavy-content Segment c s h
 heavy-body End c s h = heavy-content End c s h
 heavy-body Cancel c s h = heavy-content Cancel c s h
 
-heavy-read : (xs : List ℕ) → Heavy (read xs)
+heavy-read : (v : Version) (xs : List ℕ) → Heavy (read v xs)
 unfolding read headed bodied fee
-heavy-read [] = light
-heavy-read (zero ∷ xs) = heavy {m = skipped} {s = 1 + zeros xs} (omega arith)
-heavy-read (suc t ∷ xs) =
+heavy-read v [] = light
+heavy-read v (zero ∷ xs) = heavy {m = skipped} {s = 1 + zeros xs} (omega arith)
+heavy-read v (suc t ∷ xs) =
     let ys : List ℕ = suc t ∷ xs in
     heavy-cond (ltb (length ys) 4) (λ _. light)
-    (λ _. heavy-cond (ltb (length ys) (4 + lengthField ys)) (λ _. light)
-    (λ _. heavy-body (kindOf (suc t)) (hints (leb 128 (getD ys 1 0)) (take (lengthField ys) (drop 4 ys))) (4 + lengthField ys) (omega arith)))
+    (λ _. heavy-cond (ltb (length ys) (4 + lengthField v ys)) (λ _. light)
+    (λ _. heavy-body (kindOf v (suc t)) (hints (hinted v (getD ys 1 0)) (take (lengthField v ys) (drop 4 ys))) (4 + lengthField v ys) (omega arith)))
 
 payload-short : (m : Message) → payload m ≤ contentLength m
 unfolding payload contentLength
@@ -82,8 +83,8 @@ both-priced : {xs : List ℕ} {r : Read} → Holds xs r → Heavy r → Priced r
 both-priced refused light = unpriced
 both-priced (Spans.holds {m} {s} h) (heavy f) = priced {m = m} {s = s} (omega (arith, h .short, payload-short m)) f
 
-pub priced-read : (xs : List ℕ) → Priced (read xs)
-priced-read xs = both-priced (holds-read xs) (heavy-read xs)
+pub priced-read : (v : Version) (xs : List ℕ) → Priced (read v xs)
+priced-read v xs = both-priced (holds-read v xs) (heavy-read v xs)
 
 -- ---- over a frame
 

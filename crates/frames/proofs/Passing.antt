@@ -3,7 +3,7 @@ use mathlib.Core.Bool.{Bool, true, false, _&&_}
 use mathlib.Core.List.{List, [], _∷_}
 use mathlib.Core.Logic.{_⊎_, inl, inr}
 use mathlib.Core.Option.{Option, none, some}
-use mathlib.Core.Path.{_≡_, refl, sym, _∙_}
+use mathlib.Core.Path.{_≡_, refl, sym, ap, subst, _∙_}
 use Prim.Native.Nat.{ℕ, _+_, _-_, _≤_, _<_}
 use native.Mathlib.Numerals.{add-one}
 use native.Mathlib.Omega.{arith}
@@ -14,9 +14,12 @@ use borrow.Author.Tests.{lt-ltb, le-ltb, ltb-true, ltb-false}
 use Rattle.octets.specs.Octets.{sumOf}
 use Rattle.octets.proofs.Flags.{bool, both}
 use Rattle.window.specs.Window.{windowSize}
-use Rattle.rows.specs.Message.{draft02, messagesFrom}
+use Rattle.rows.specs.declared.Settings.{Settings}
+use Rattle.rows.specs.Message.{Draft, draft, draftOf, messagesFrom}
+use Rattle.rows.proofs.Keeping.{settingsOf}
 use Rattle.messages.specs.declared.Limits.{Limits}
-use Rattle.messages.specs.Run.{Run, roomy, run, Able}
+use Rattle.messages.specs.Run.{Run, roomy, run, runFrom, Able}
+use Rattle.messages.proofs.Keeping.{run-keeps}
 use Rattle.receiver.specs.declared.Refusal.{Refusal}
 use Rattle.receiver.specs.Receive.{numberOf, unfit}
 use Rattle.receiver.proofs.Refusals.{number-some, Fit, fit}
@@ -36,9 +39,14 @@ pub record Keeps (r₀ r : Run) : Type 0 where
   pub lengths : length (r .lengths) ≡ length (r₀ .lengths)
   pub numbers : length (r .numbers) ≡ length (r₀ .numbers)
 
+-- the draft that the frames are taken by
+abbrev pub draftAt : Reach → Draft
+draftAt r = draftOf (r .run .board .state)
+
 -- r is how far the frames before frame k came, which starts at an octet
 pub record Passing (limits : Limits) (sizes octets : List ℕ) (r₀ : Reach) (k at : ℕ) (r : Reach) : Type 0 where
-  pub same : through draft02 windowSize limits r₀ (framesOf sizes octets) ≡ through draft02 windowSize limits r (framesOf (drop k sizes) (drop at octets))
+  pub same : through (draftAt r₀) windowSize limits r₀ (framesOf sizes octets) ≡ through (draftAt r₀) windowSize limits r (framesOf (drop k sizes) (drop at octets))
+  pub set : settingsOf (r .run .board) ≡ settingsOf (r₀ .run .board)
   pub able : ableIn (r .run)
   pub some : k ≤ length sizes
   pub room : at + sumOf (drop k sizes) ≤ length octets
@@ -55,6 +63,7 @@ goesOn limits sizes k r = ltb k (length sizes) && roomy (r .run .progress) limit
 pub begins : (limits : Limits) (sizes octets : List ℕ) (r : Reach) → ableIn (r .run) → sumOf sizes ≤ length octets → r .refused ≡ 0 → Passing limits sizes octets r 0 0 r
 begins limits sizes octets r A room zero = record {
   same = refl;
+  set = refl;
   able = A;
   some = omega arith;
   room = omega arith;
@@ -67,15 +76,15 @@ begins limits sizes octets r A room zero = record {
 
 module _ {limits : Limits} {sizes octets : List ℕ} {r₀ : Reach} {k at : ℕ} {r : Reach} (P : Passing limits sizes octets r₀ k at r) where
   -- the loop ends: no frame is left, or a limit is reached
-  pub ends : goesOn limits sizes k r ≡ false → r ≡ through draft02 windowSize limits r₀ (framesOf sizes octets)
+  pub ends : goesOn limits sizes k r ≡ false → r ≡ through (draftAt r₀) windowSize limits r₀ (framesOf sizes octets)
   unfolding through framesOf
   ends test = sym (P .same ∙ go (bool (ltb k (length sizes))))
     where
-      stops : (fs : List (List ℕ)) → roomy (r .run .progress) limits (length (r .run .output)) ≡ false → through draft02 windowSize limits r fs ≡ r
+      stops : (fs : List (List ℕ)) → roomy (r .run .progress) limits (length (r .run .output)) ≡ false → through (draftAt r₀) windowSize limits r fs ≡ r
       stops [] e = refl
       stops (f ∷ fs) e = rw e
 
-      go : (ltb k (length sizes) ≡ true) ⊎ (ltb k (length sizes) ≡ false) → through draft02 windowSize limits r (framesOf (drop k sizes) (drop at octets)) ≡ r
+      go : (ltb k (length sizes) ≡ true) ⊎ (ltb k (length sizes) ≡ false) → through (draftAt r₀) windowSize limits r (framesOf (drop k sizes) (drop at octets)) ≡ r
       go (inl e) = stops (framesOf (drop k sizes) (drop at octets)) (rw e at test)
       go (inr e) = rw (drop-of-length-le sizes {i = k} (ltb-false k (length sizes) e))
 
@@ -116,12 +125,13 @@ module _ {limits : Limits} {sizes octets : List ℕ} {r₀ : Reach} {k at : ℕ}
     abbrev place : ℕ
     place = r .run .progress .next
 
-    module _ (reason : ℕ) (e : reason ≡ numberOf (unfit draft02 f place)) where
+    module _ (reason : ℕ) (e : reason ≡ numberOf (unfit (draftAt r₀) f place)) where
       -- the frame is refused, and the next one follows
       pub refuses : 0 < reason → Passing limits sizes octets r₀ (k + 1) (at + n) (noted r reason)
       unfolding through
       refuses positive = record {
         same = P .same ∙ rw (frames-here, tests .1, ← e, lt-ltb 0 reason positive);
+        set = P .set;
         able = record { sound = P .able .sound; pooled = P .able .pooled; used = P .able .used };
         some = omega (arith, k<);
         room = onward;
@@ -133,12 +143,15 @@ module _ {limits : Limits} {sizes octets : List ℕ} {r₀ : Reach} {k at : ℕ}
       }
 
       module _ (good : reason ≤ 0) where
-        pub fits : Fit draft02 f place
-        fits = fit draft02 f place (unrefused (unfit draft02 f place) (rw e at good))
+        pub fits : Fit (draftAt r) f place
+        fits = subst (λ (s : Settings). Fit (draft (s .version)) f place) (sym (P .set)) (fit (draftAt r₀) f place (unrefused (unfit (draftAt r₀) f place) (rw e at good)))
 
-        module _ (t : Run) (went : t ≡ run windowSize false limits (r .run) (messagesFrom draft02 f place)) where
+        module _ (t : Run) (ran : t ≡ runFrom limits (r .run) f) where
+          went : t ≡ run windowSize (draftAt r₀ .order) limits (r .run) (messagesFrom (draftAt r₀) f place)
+          went = ran ∙ ap (λ (s : Settings). run windowSize (draft (s .version) .order) limits (r .run) (messagesFrom (draft (s .version)) f place)) (P .set)
+
           -- the frame is left before its end
-          pub stopped : t .progress .next < n → within r t ≡ through draft02 windowSize limits r₀ (framesOf sizes octets)
+          pub stopped : t .progress .next < n → within r t ≡ through (draftAt r₀) windowSize limits r₀ (framesOf sizes octets)
           unfolding through
           stopped lt = sym (P .same ∙ rw (frames-here, tests .1, ← e, le-ltb 0 reason good, ← went, length-f, lt-ltb (t .progress .next) n lt))
 
@@ -147,6 +160,7 @@ module _ {limits : Limits} {sizes octets : List ℕ} {r₀ : Reach} {k at : ℕ}
           unfolding through
           passes le A K = record {
             same = P .same ∙ rw (frames-here, tests .1, ← e, le-ltb 0 reason good, ← went, length-f, le-ltb (t .progress .next) n le);
+            set = ap (λ (x : Run). settingsOf (x .board)) ran ∙ run-keeps windowSize _ limits (r .run) _ ∙ P .set;
             able = record { sound = A .sound; pooled = A .pooled; used = A .used };
             some = omega (arith, k<);
             room = onward;

@@ -16,12 +16,13 @@ use Rattle.wire.specs.Frame.{Item, row, items, from, scanned, Sized, frameMax}
 use Rattle.wire.proofs.Order.{Along, few-items, good-place}
 use Rattle.wire.proofs.Places.{taken}
 use Rattle.window.specs.Window.{Window}
+use Rattle.pieces.specs.declared.Order.{Order}
 use Rattle.pieces.specs.Pieces.{bundleMax}
 use Rattle.rows.specs.Message.{Draft, Board, Handed, step, messagesFrom}
 use Rattle.messages.specs.declared.Limits.{Limits}
 use Rattle.messages.specs.declared.Progress.{Progress}
 use Rattle.messages.specs.Run.{Run, progressed, advanced, run}
-use Rattle.receiver.specs.Receive.{Reply, unfit, delivered, treat, receive}
+use Rattle.receiver.specs.Receive.{Reply, unfit, delivered, treat, receiveAs}
 use Rattle.receiver.specs.declared.Answer.the-variants.{Delivered}
 use Rattle.receiver.proofs.Ready.{Ready, step-ready}
 use Rattle.receiver.proofs.Calls.{admitted as admitted-call}
@@ -77,17 +78,17 @@ module _ (D : Draft) (w : ℕ) (limits : Limits) (size : ℕ) (f : List ℕ) (k 
 
   -- a call that hands out x
   hands-out : (b b₁ : Board) (at next count used : ℕ) (spare : List ℕ) (x : Handed) → bundleMax ≤ length spare → roomIn limits size count used ≡ true
-      → receive D w b f at spare ≡ record { answer = Delivered (length (x .octets)) next (x .origin); board = b₁; output = put spare 0 (x .octets) }
+      → receiveAs D w b f at spare ≡ record { answer = Delivered (length (x .octets)) next (x .origin); board = b₁; output = put spare 0 (x .octets) }
       → (hs : List Handed) (ns : List Note) (final : Board) (k′ place′ : ℕ) → Single k (f ∷ fs) b₁ next (count + 1) (used + length (x .octets)) hs ns final k′ place′
       → Single k (f ∷ fs) b at count used (x ∷ hs) ns final k′ place′
   hands-out b b₁ at next count used spare x big free q hs ns final k′ place′ s =
-      let os : take (length (x .octets)) (receive D w b f at spare .output) ≡ x .octets = rw q (read-back spare (put spare 0 (x .octets)) (x .octets) refl) in
-      let same : _≡_ {A = Handed} (record { origin = x .origin; octets = take (length (x .octets)) (receive D w b f at spare .output) }) x = ap (λ (ys : List ℕ). record { origin = x .origin; octets = ys }) os in
-      let s₁ : Single k (f ∷ fs) (receive D w b f at spare .board) next (count + 1) (used + length (x .octets)) hs ns final k′ place′ = rw q s in
+      let os : take (length (x .octets)) (receiveAs D w b f at spare .output) ≡ x .octets = rw q (read-back spare (put spare 0 (x .octets)) (x .octets) refl) in
+      let same : _≡_ {A = Handed} (record { origin = x .origin; octets = take (length (x .octets)) (receiveAs D w b f at spare .output) }) x = ap (λ (ys : List ℕ). record { origin = x .origin; octets = ys }) os in
+      let s₁ : Single k (f ∷ fs) (receiveAs D w b f at spare .board) next (count + 1) (used + length (x .octets)) hs ns final k′ place′ = rw q s in
       rw same at (delivers spare (length (x .octets)) next (x .origin) big free (ap (λ (y : Reply). y .answer) q) s₁)
 
   behind : (b b₁ : Board) (at next count used : ℕ) (spare : List ℕ) (x : Handed) → bundleMax ≤ length spare → roomIn limits size count used ≡ true
-      → receive D w b f at spare ≡ record { answer = Delivered (length (x .octets)) next (x .origin); board = b₁; output = put spare 0 (x .octets) }
+      → receiveAs D w b f at spare ≡ record { answer = Delivered (length (x .octets)) next (x .origin); board = b₁; output = put spare 0 (x .octets) }
       → (after : Run) (hs : List Handed) → Fate b₁ next (count + 1) (used + length (x .octets)) after hs → Fate b at count used after (x ∷ hs)
   behind b b₁ at next count used spare x big free q after hs (through n l) =
       through n (λ hs′ ns final k′ place′ s. hands-out b b₁ at next count used spare x big free q (hs ++ hs′) ns final k′ place′ (l hs′ ns final k′ place′ s))
@@ -103,19 +104,19 @@ module _ (D : Draft) (w : ℕ) (limits : Limits) (size : ℕ) (f : List ℕ) (k 
     record Stands (b : Board) (at : ℕ) (r : Run) (is : List Item) : Type 0 where
       ready : Ready w (r .board)
       here : Here (r .progress .next) is
-      same : receive D w b f at spare ≡ treat D w (r .board) is spare
+      same : receiveAs D w b f at spare ≡ treat D w (r .board) is spare
       fresh : ((b ≡ r .board) × (at ≡ r .progress .next)) ⊎ (room (r .progress) limits size ≡ true)
       few : r .progress .treated + length is ≤ limits .messages
       brief : Brief is
       lent : length (r .output) ≡ size
 
-    call : (b : Board) (at : ℕ) (is : List Item) → Ready w b → Here at is → receive D w b f at spare ≡ treat D w b is spare
+    call : (b : Board) (at : ℕ) (is : List Item) → Ready w b → Here at is → receiveAs D w b f at spare ≡ treat D w b is spare
     call b at is R A =
         admitted-call D w b f at spare all (R .sound) (R .pool) big positive small whole (rw (A .split) (good-place at (length f) (A .front) is (A .on)))
         ∙ ap (λ (js : List Item). treat D w b js spare) (A .here)
 
     abbrev Later : List Item → Type 0
-    Later is = (b : Board) (at : ℕ) (r : Run) → Stands b at r is → Came b at r (run w (D .falling) limits r is)
+    Later is = (b : Board) (at : ℕ) (r : Run) → Stands b at r is → Came b at r (run w (D .order) limits r is)
 
     at-end : Later []
     unfolding run treat Along
@@ -123,7 +124,7 @@ module _ (D : Draft) (w : ℕ) (limits : Limits) (size : ℕ) (f : List ℕ) (k 
       handed = [];
       adds = adds-none r;
       fate = through (S .here .on) (λ hs′ ns final k′ place′ s.
-          let s₁ : Single (k + 1) fs (receive D w b f at spare .board) 0 (r .progress .count) (r .progress .used) hs′ ns final k′ place′ = rw (S .same) s in
+          let s₁ : Single (k + 1) fs (receiveAs D w b f at spare .board) 0 (r .progress .count) (r .progress .used) hs′ ns final k′ place′ = rw (S .same) s in
           finishes spare big (go (S .fresh)) (ap (λ (x : Reply). x .answer) (S .same)) s₁);
       ready = S .ready;
       lent = S .lent;
@@ -154,24 +155,24 @@ module _ (D : Draft) (w : ℕ) (limits : Limits) (size : ℕ) (f : List ℕ) (k 
 
       module _ (free : room (r .progress) limits size ≡ true) (later : Later is) where
         abbrev b₁ : Board
-        b₁ = step w (D .falling) (r .board) (i .message) .board
+        b₁ = step w (D .order) (r .board) (i .message) .board
 
         ready₁ : Ready w b₁
-        ready₁ = step-ready w win (D .falling) (r .board) (i .message) (S .ready)
+        ready₁ = step-ready w win (D .order) (r .board) (i .message) (S .ready)
 
         here₁ : Here (i .next) is
         here₁ = at-next D M f all whole (S .here) [] i is refl
 
         -- the output keeps its length
-        lent₁ : (x : Handed) → step w (D .falling) (r .board) (i .message) .handed ≡ some x → length (put (r .output) (r .progress .used) (x .octets)) ≡ size
+        lent₁ : (x : Handed) → step w (D .order) (r .board) (i .message) .handed ≡ some x → length (put (r .output) (r .progress .used) (x .octets)) ≡ size
         unfolding octetsOf Brief
         lent₁ x h =
-            let short : length (x .octets) ≤ bundleMax = rw h at (step-fits w win (D .falling) (r .board) (i .message) (S .ready) (S .brief .0)) in
+            let short : length (x .octets) ≤ bundleMax = rw h at (step-fits w win (D .order) (r .board) (i .message) (S .ready) (S .brief .0)) in
             let left : bundleMax ≤ size - r .progress .used = leb-true bundleMax (size - r .progress .used) (both (ltb (r .progress .count) (limits .bundles)) _ free .1) in
             length-put (r .output) (r .progress .used) (x .octets) (omega (arith, S .lent)) ∙ S .lent
 
         -- a message is treated
-        turn : (o : Option Handed) → step w (D .falling) (r .board) (i .message) .handed ≡ o → Came b at r (run w (D .falling) limits (advanced r b₁ (i .next) o) is)
+        turn : (o : Option Handed) → step w (D .order) (r .board) (i .message) .handed ≡ o → Came b at r (run w (D .order) limits (advanced r b₁ (i .next) o) is)
         unfolding treat delivered advanced progressed Brief
         turn none h =
             let c = later b at (advanced r b₁ (i .next) none) (record { ready = ready₁; here = here₁; same = S .same ∙ rw h; fresh = inr free; few = omega (arith, S .few); brief = S .brief .1; lent = S .lent }) in
@@ -193,8 +194,8 @@ module _ (D : Draft) (w : ℕ) (limits : Limits) (size : ℕ) (f : List ℕ) (k 
     one i is later b at r S = rw (in-time i is b at r S, S .lent) (go (bool (room (r .progress) limits size)))
       where
         go : (room (r .progress) limits size ≡ true) ⊎ (room (r .progress) limits size ≡ false)
-            → Came b at r (cond (room (r .progress) limits size) (run w (D .falling) limits (advanced r (step w (D .falling) (r .board) (i .message) .board) (i .next) (step w (D .falling) (r .board) (i .message) .handed)) is) r)
-        go (inl e) = rw e (turn i is b at r S e later (step w (D .falling) (r .board) (i .message) .handed) refl)
+            → Came b at r (cond (room (r .progress) limits size) (run w (D .order) limits (advanced r (step w (D .order) (r .board) (i .message) .board) (i .next) (step w (D .order) (r .board) (i .message) .handed)) is) r)
+        go (inl e) = rw e (turn i is b at r S e later (step w (D .order) (r .board) (i .message) .handed) refl)
         go (inr e) = rw e (stays i is b at r S e)
 
     singly : (is : List Item) → Later is
@@ -204,7 +205,7 @@ module _ (D : Draft) (w : ℕ) (limits : Limits) (size : ℕ) (f : List ℕ) (k 
   -- a frame that is not refused, from any progress on
   pub frame-singly : ((xs : List ℕ) → Sized (length xs) (D .read xs)) → ((xs : List ℕ) → Priced (D .read xs)) → Window w → (spare : List ℕ) → bundleMax ≤ length spare
       → (r : Run) → Ready w (r .board) → length (r .output) ≡ size → unfit D f (r .progress .next) ≡ none → r .progress .treated + length f ≤ limits .messages
-      → Came (r .board) (r .progress .next) r (run w (D .falling) limits r (messagesFrom D f (r .progress .next)))
+      → Came (r .board) (r .progress .next) r (run w (D .order) limits r (messagesFrom D f (r .progress .next)))
   unfolding messagesFrom items
   frame-singly M C win spare big r R L e few =
       let place : ℕ = r .progress .next in

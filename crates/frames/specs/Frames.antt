@@ -71,7 +71,7 @@ module _ (D : Draft) (w : ℕ) (limits : Limits) where
   through r (f ∷ fs) =
       let place : ℕ = r .run .progress .next in
       let reason : ℕ = numberOf (unfit D f place) in
-      let t : Run = run w (D .falling) limits (r .run) (messagesFrom D f place) in
+      let t : Run = run w (D .order) limits (r .run) (messagesFrom D f place) in
       cond (roomy (r .run .progress) limits (length (r .run .output)))
       (cond (ltb 0 reason) (through (noted r reason) fs) (cond (ltb (t .progress .next) (length f)) (within r t) (through (passed r t) fs)))
       r

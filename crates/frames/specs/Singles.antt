@@ -13,7 +13,7 @@ use Rattle.rows.specs.declared.Origin.{Origin}
 use Rattle.receiver.specs.declared.Refusal.{Refusal}
 use Rattle.receiver.specs.declared.Answer.the-variants.{Delivered, Finished, Refused}
 use Rattle.rows.specs.Message.{Draft, Board, Handed}
-use Rattle.receiver.specs.Receive.{refusalNumber, receive}
+use Rattle.receiver.specs.Receive.{refusalNumber, receiveAs}
 use Rattle.frames.specs.Frames.{Note}
 
 -- "fewer than 4,096 octets of output are left or 256 bundles are out": room is left, in an output of so many octets, under limits
@@ -35,18 +35,18 @@ module _ (D : Draft) (w : ℕ) (room : ℕ → ℕ → Bool) where
         → Singles k (f ∷ fs) b place count used [] [] b k place
     delivers : {k place count used k′ place′ : ℕ} {f : List ℕ} {fs : List (List ℕ)} {b after : Board} {hs : List Handed} {ns : List Note} (output : List ℕ) (size next : ℕ) (origin : Origin)
         → bundleMax ≤ length output → room count used ≡ true
-        → receive D w b f place output .answer ≡ Delivered size next origin
-        → Singles k (f ∷ fs) (receive D w b f place output .board) next (count + 1) (used + size) hs ns after k′ place′
-        → Singles k (f ∷ fs) b place count used (record { origin = origin; octets = take size (receive D w b f place output .output) } ∷ hs) ns after k′ place′
+        → receiveAs D w b f place output .answer ≡ Delivered size next origin
+        → Singles k (f ∷ fs) (receiveAs D w b f place output .board) next (count + 1) (used + size) hs ns after k′ place′
+        → Singles k (f ∷ fs) b place count used (record { origin = origin; octets = take size (receiveAs D w b f place output .output) } ∷ hs) ns after k′ place′
     -- at a frame's end no message follows, and no room is asked for: "at a frame's end the next frame"
     finishes : {k place count used k′ place′ : ℕ} {f : List ℕ} {fs : List (List ℕ)} {b after : Board} {hs : List Handed} {ns : List Note} (output : List ℕ)
         → bundleMax ≤ length output → (room count used ≡ true) ⊎ (place ≡ length f)
-        → receive D w b f place output .answer ≡ Finished
-        → Singles (k + 1) fs (receive D w b f place output .board) 0 count used hs ns after k′ place′
+        → receiveAs D w b f place output .answer ≡ Finished
+        → Singles (k + 1) fs (receiveAs D w b f place output .board) 0 count used hs ns after k′ place′
         → Singles k (f ∷ fs) b place count used hs ns after k′ place′
     -- "noted with its place in the list and its refusal number, and the burst goes on"
     refuses : {k place count used k′ place′ : ℕ} {f : List ℕ} {fs : List (List ℕ)} {b after : Board} {hs : List Handed} {ns : List Note} (output : List ℕ) (q : Refusal)
         → bundleMax ≤ length output → room count used ≡ true
-        → receive D w b f place output .answer ≡ Refused q
+        → receiveAs D w b f place output .answer ≡ Refused q
         → Singles (k + 1) fs b 0 count used hs ns after k′ place′
         → Singles k (f ∷ fs) b place count used hs (record { place = k; reason = refusalNumber q } ∷ ns) after k′ place′

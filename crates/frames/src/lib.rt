@@ -3,6 +3,7 @@ use messages::Limits;
 use messages::Progress;
 use receiver::Admission;
 use rows::State;
+use wire::Version;
 ghost use mathlib.Core.Path.{_≡_};
 ghost use mathlib.Core.Bool.{_&&_};
 ghost use Prim.Native.Nat.{_+_, _≤_};
@@ -10,7 +11,7 @@ ghost use lib.ListN.{length, set};
 ghost use lib.Dec.{ltb};
 ghost use Rattle.octets.specs.Octets.{sumOf};
 ghost use Rattle.rows.specs.State.{windowOf};
-ghost use Rattle.rows.specs.Message.{draft02, draftOf};
+ghost use Rattle.rows.specs.Message.{draft, draftOf};
 ghost use Rattle.messages.specs.Run as Loop;
 ghost use Rattle.receiver.specs.Receive.{numberOf, unfit};
 ghost use Rattle.frames.specs.Frames as Frames;
@@ -25,10 +26,10 @@ pub struct Reached {
 }
 
 // The number of a frame's refusal, or 0.
-pub fn reason_of(frame: &[u8], place: usize) -> u32
-    ensures { λ r. ⌜ r ≡ numberOf (unfit draft02 (now (frame .entry)) place) ⌝ }
+pub fn reason_of(version: Version, frame: &[u8], place: usize) -> u32
+    ensures { λ r. ⌜ r ≡ numberOf (unfit (draft version) (now (frame .entry)) place) ⌝ }
 {
-    let a = receiver::admit_frame(frame, place);
+    let a = receiver::admit_frame(version, frame, place);
     match a {
         Admission::Admitted => 0,
         Admission::Denied(refusal) => receiver::refusal_number(refusal),
@@ -49,6 +50,14 @@ fn put_entry(entries: &mut [u32], at: usize, x: u32)
     if at < entries.len() {
         entries[at] = x;
     }
+}
+
+// A refused frame in the lists.
+fn note(places: &mut [u32], reasons: &mut [u32], at: usize, frame: u32, reason: u32)
+    ensures { λ _. ⌜ (now (places .exit) ≡ set (now (places .entry)) at frame) × (now (reasons .exit) ≡ set (now (reasons .entry)) at reason) ⌝ }
+{
+    put_entry(places, at, frame);
+    put_entry(reasons, at, reason);
 }
 
 // Frames from the progress's place in the first one on, until a limit is reached or the output lacks room for a further bundle. `first` is
@@ -79,6 +88,7 @@ pub fn run_frames<'a>(
         (now (places .entry)) (now (reasons .entry)) first)
         (framesOf (now (sizes .entry)) (now (octets .entry))) ⌝ }
 {
+    let version = rows::version_of(state);
     let mut now = state;
     let mut progress = from;
     let mut refused = 0;
@@ -89,10 +99,9 @@ pub fn run_frames<'a>(
         let n = sizes[k] as usize;
         let end = at + n;
         let pdu = &octets[at..end];
-        let reason = reason_of(pdu, progress.next);
+        let reason = reason_of(version, pdu, progress.next);
         if 0 < reason {
-            put_entry(places, refused, frame);
-            put_entry(reasons, refused, reason);
+            note(places, reasons, refused, frame, reason);
             refused += 1;
             progress.next = 0;
             k += 1;

@@ -1,13 +1,14 @@
 // A sender's state, the answers of its calls, and the steps that add one message or one padding to its frame (document 01, "Sending calls").
+use wire::Version;
 ghost use mathlib.Core.Path.{_≡_};
 ghost use mathlib.Core.List.{List};
-ghost use Prim.Native.Nat.{ℕ, _+_, _≤_, _<_};
+ghost use Prim.Native.Nat.{ℕ, _+_, _-_, _≤_, _<_};
 ghost use lib.ListN.{length};
 ghost use Rattle.wire.specs.Message as Message;
 ghost use Rattle.framing.specs.Answers.{refusalNumber, outcome};
 ghost use Rattle.framing.specs.Placing as Placing;
 
-// A sender: frame size P, fill f, the next transfer number, and the transfer begun if there is one.
+// A sender: frame size P, fill f, the next transfer number, the transfer begun if there is one, and the draft.
 pub struct State {
     pub size: usize,
     pub fill: usize,
@@ -17,6 +18,7 @@ pub struct State {
     pub length: usize,
     pub placed: usize,
     pub index: u32,
+    pub version: Version,
 }
 
 // Refusals 1 and 10 to 14 of document 01, in that order.
@@ -60,6 +62,7 @@ pub fn refusal_number(refusal: Refusal) -> u32
 fn with_fill(s: State, fill: usize) -> State
     ensures { λ r. ⌜ r ≡ Placing.withFill s fill ⌝ }
 {
+    let version = s.version;
     State {
         size: s.size,
         fill,
@@ -69,12 +72,14 @@ fn with_fill(s: State, fill: usize) -> State
         length: s.length,
         placed: s.placed,
         index: s.index,
+        version,
     }
 }
 
 fn ended(s: State) -> State
     ensures { λ r. ⌜ r ≡ Placing.ended s ⌝ }
 {
+    let version = s.version;
     State {
         size: s.size,
         fill: s.fill,
@@ -84,6 +89,7 @@ fn ended(s: State) -> State
         length: 0,
         placed: 0,
         index: 0,
+        version,
     }
 }
 
@@ -94,6 +100,7 @@ fn numbered(s: State) -> State
     if s.begun {
         return s;
     }
+    let version = s.version;
     State {
         size: s.size,
         fill: s.fill,
@@ -103,14 +110,16 @@ fn numbered(s: State) -> State
         length: s.length,
         placed: s.placed,
         index: s.index,
+        version,
     }
 }
 
-// A segment of n octets more of a bundle of a length.
-fn continued(s: State, length: usize, n: usize) -> State
-    requires { ⌜ (s .placed + n ≤ Placing.bundleMax) × (s .index ≤ 64) ⌝ }
-    ensures { λ r. ⌜ r ≡ Placing.continued s length n ⌝ }
+// n octets more of a bundle of a length, and the index of the next piece.
+fn continued(s: State, length: usize, n: usize, index: u32) -> State
+    requires { ⌜ s .placed + n ≤ Placing.bundleMax ⌝ }
+    ensures { λ r. ⌜ r ≡ Placing.continued s length n index ⌝ }
 {
+    let version = s.version;
     State {
         size: s.size,
         fill: s.fill,
@@ -119,7 +128,63 @@ fn continued(s: State, length: usize, n: usize) -> State
         number: s.number,
         length,
         placed: s.placed + n,
-        index: s.index + 1,
+        index,
+        version,
+    }
+}
+
+// The index of a start, which carries `most` octets.
+fn start_index(size: usize, most: usize, length: usize) -> u32
+    requires { ⌜ (13 ≤ size) × (size ≤ 2048) × (most ≤ length) × (length ≤ Placing.bundleMax) ⌝ }
+    ensures { λ r. ⌜ (r ≡ Placing.roundedUp (length - most) (size - 12)) × (r ≤ 8192) ⌝ }
+{
+    let each = size - 12;
+    let pieces = (length - most + (each - 1)) / each;
+    pieces as u32
+}
+
+// The index of the next piece of a bundle.
+fn piece_index(s: State, length: usize) -> u32
+    requires { ⌜ (s .fill + 13 ≤ s .size) × (s .size ≤ 2048) × (s .size < length + 4) × (length ≤ Placing.bundleMax) × (s .index ≤ 64) ⌝ }
+    ensures { λ r. ⌜ (r ≡ Placing.pieceIndex s length) × (r ≤ 8192) ⌝ }
+{
+    if s.begun {
+        return s.index;
+    }
+    let version = s.version;
+    match version {
+        Version::Draft00 => start_index(s.size, s.size - s.fill - 12, length),
+        Version::Draft02 => s.index,
+    }
+}
+
+// The index below, if there is one.
+fn below(index: u32) -> u32
+    ensures { λ r. ⌜ r ≡ index - 1 ⌝ }
+{
+    if index == 0 {
+        return 0;
+    }
+    index - 1
+}
+
+fn next_index(version: Version, index: u32) -> u32
+    requires { ⌜ index ≤ 8192 ⌝ }
+    ensures { λ r. ⌜ r ≡ Placing.nextIndex version index ⌝ }
+{
+    match version {
+        Version::Draft00 => below(index),
+        Version::Draft02 => index + 1,
+    }
+}
+
+// Whether a piece is an end, or a start.
+fn marks(version: Version, begun: bool, last: bool) -> bool
+    ensures { λ r. ⌜ r ≡ Placing.marks version begun last ⌝ }
+{
+    match version {
+        Version::Draft00 => !begun,
+        Version::Draft02 => last,
     }
 }
 
@@ -154,21 +219,42 @@ pub fn close(s: State, frame: &mut [u8]) -> Sent
 
 // The next piece of the bundle, in a room for its header, number and index.
 fn place_piece(s: State, bundle: &[u8], frame: &mut [u8]) -> Sent
-    requires { ⌜ (s .fill + 12 ≤ s .size) × (s .size ≤ 2048) × (length (now frame) ≡ s .size) ⌝ }
+    requires { ⌜ (s .fill + 13 ≤ s .size) × (s .size ≤ 2048) × (length (now frame) ≡ s .size) × (s .size < length (now bundle) + 4) ⌝ }
     requires { ⌜ (s .placed < length (now bundle)) × (length (now bundle) ≤ Placing.bundleMax) × (s .index ≤ 64) ⌝ }
     ensures { λ r. ⌜ outcome r (now (frame .exit)) ≡ Placing.placePiece s (now (bundle .entry)) (now (frame .entry)) ⌝ }
 {
+    let version = s.version;
     let at = s.placed;
     let left = bundle.len() - at;
     let most = s.size - s.fill - 12;
     let t = numbered(s);
+    let index = piece_index(s, bundle.len());
     if left <= most {
-        writing::put_piece(frame, s.fill, true, t.number, s.index, &bundle[at..]);
+        writing::put_piece(
+            version,
+            frame,
+            s.fill,
+            marks(version, s.begun, true),
+            t.number,
+            index,
+            &bundle[at..],
+        );
         return advanced(ended(t), left + 12);
     }
     let end = at + most;
-    writing::put_piece(frame, s.fill, false, t.number, s.index, &bundle[at..end]);
-    advanced(continued(t, bundle.len(), most), most + 12)
+    writing::put_piece(
+        version,
+        frame,
+        s.fill,
+        marks(version, s.begun, false),
+        t.number,
+        index,
+        &bundle[at..end],
+    );
+    advanced(
+        continued(t, bundle.len(), most, next_index(version, index)),
+        most + 12,
+    )
 }
 
 fn tight(room: usize) -> bool

@@ -14,6 +14,8 @@ use Rattle.octets.proofs.Flags.{bool, and, both}
 use Rattle.octets.proofs.Numbers.{number-be32}
 use Rattle.octets.proofs.Series.{length-items}
 use Rattle.octets.proofs.Pairs.{pairs-back}
+use Rattle.wire.specs.declared.Version.{Version}
+use Rattle.wire.specs.declared.Version.the-variants.{Draft00, Draft02}
 use Rattle.window.specs.Window.{windowSize}
 use Rattle.row.specs.declared.Phase.{Phase}
 use Rattle.row.specs.declared.Phase.the-variants.{Free, Open, Done, Cancelled, Abandoned}
@@ -25,7 +27,7 @@ use Rattle.row.proofs.Sound.{sound-facts}
 use Rattle.rows.specs.declared.State.{State}
 use Rattle.rows.specs.State.{soundRows, sound}
 use Rattle.rows.proofs.Rows.{sound-get}
-use Rattle.images.specs.Receiver.{imageSize, rowSize, phaseOf, isRow, rowOf, areRows, rowsOf, isImage, stateOf, phaseCode, flag, rowImage, rowsImage, imageOf}
+use Rattle.images.specs.Receiver.{imageSize, rowSize, phaseOf, isRow, rowOf, areRows, rowsOf, isImage, stateOf, phaseCode, versionOf, versionCode, flag, rowImage, rowsImage, imageOf}
 use Rattle.images.proofs.Rows.{length-row}
 
 -- a row whose numbers fit their octets
@@ -62,6 +64,15 @@ flag-back false = refl
 pub flag-low : (b : Bool) → leb (flag b) 1 ≡ true
 flag-low true = refl
 flag-low false = refl
+
+pub version-back : (v : Version) → versionOf (versionCode v) ≡ v
+unfolding versionOf
+version-back Draft00 = refl
+version-back Draft02 = refl
+
+pub version-low : (v : Version) → leb (versionCode v) 1 ≡ true
+version-low Draft00 = refl
+version-low Draft02 = refl
 
 -- ---- rows, with octets behind them
 
@@ -108,13 +119,13 @@ pub state-back : (s : State) → StateFits s → stateOf (imageOf s) ≡ s
 unfolding stateOf imageOf be32
 state-back s f =
     let rows : rowsOf windowSize (rowsImage (s .rows)) ≡ s .rows = rw append-nil at (rows-back [] (s .rows) windowSize (f .full) (f .rows)) in
-    rw (flag-back (s .present), number-be32 (s .greatest) (rowsImage (s .rows)) (f .greatest), rows)
+    rw (flag-back (s .present), number-be32 (s .greatest) (rowsImage (s .rows)) (f .greatest), rows, version-back (s .settings .version))
 
 pub image-of-is : (s : State) → StateFits s → isImage (imageOf s) ≡ true
 unfolding isImage imageOf be32
 image-of-is s f =
     let rows : areRows windowSize (rowsImage (s .rows)) ≡ true = rw append-nil at (are-rows-back [] (s .rows) windowSize (f .full) (f .rows)) in
-    rw (flag-low (s .present), rows)
+    rw (flag-low (s .present), version-low (s .settings .version), rows)
 
 pub length-image : (s : State) → StateFits s → length (imageOf s) ≡ imageSize
 unfolding imageOf be32

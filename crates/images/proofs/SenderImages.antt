@@ -11,9 +11,9 @@ use Rattle.octets.proofs.Flags.{bool}
 use Rattle.octets.proofs.Numbers.{number-be32, number16-be16}
 use Rattle.framing.specs.declared.State.{State}
 use Rattle.sender.specs.Sound.{sound}
-use Rattle.sender.proofs.Facts.{in-range, in-transfer, at-rest}
+use Rattle.sender.proofs.Facts.{in-range, in-transfer, at-rest, index-few}
 use Rattle.images.specs.Sender.{isImage, stateOf, imageOf}
-use Rattle.images.proofs.ReceiverImages.{flag-back, flag-low}
+use Rattle.images.proofs.ReceiverImages.{flag-back, flag-low, version-back, version-low}
 
 -- a state whose numbers fit their octets
 pub record StateFits (s : State) : Type 0 where
@@ -37,11 +37,12 @@ state-back s f =
       number16-be16 (s .length) _ (f .length),
       number16-be16 (s .placed) _ (f .placed),
       number-be32 (s .index) [] (f .index),
+      version-back (s .version),
     )
 
 pub image-of-is : (s : State) → isImage (imageOf s) ≡ true
 unfolding isImage imageOf be16 be32
-image-of-is s = rw (flag-low (s .begun))
+image-of-is s = rw (flag-low (s .begun), version-low (s .version))
 
 pub sound-state-fits : (s : State) → sound s ≡ true → s .next < 2 ^ 32 → s .number < 2 ^ 32 → StateFits s
 sound-state-fits s e n t = ⊎-elim busy idle (bool (s .begun))
@@ -53,6 +54,7 @@ sound-state-fits s e n t = ⊎-elim busy idle (bool (s .begun))
     busy b =
         let f = in-transfer s e b in
         let u = f .counted in
+        let i = index-few (f .indexes) (in-range s e) u in
         fits (omega arith) (omega arith) (omega arith)
 
     idle : s .begun ≡ false → StateFits s

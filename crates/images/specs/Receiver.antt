@@ -1,12 +1,14 @@
 -- The receiver's state as an image of 3,144 octets.
--- Octet 0 of the image is 1 if G is present, 1 to 3 are zero, 4 to 7 are G; then 196 octets for each row: phase, whether the final index
--- is known, the final index, how many pieces are held, 64 indexes, 64 lengths of two octets. Numbers are big-endian.
+-- Octet 0 of the image is 1 if G is present, 2 is 1 for draft 00, 1 and 3 are zero, 4 to 7 are G; then 196 octets for each row: phase, whether the
+-- final index is known, the final index, how many pieces are held, 64 indexes, 64 lengths of two octets. Numbers are big-endian.
 use mathlib.Core.Bool.{Bool, true, cond, _&&_}
 use mathlib.Core.List.{List, [], _∷_, _++_}
 use Prim.Native.Nat.{ℕ, zero, suc, _+_, _*_, _/_, _%_}
 use lib.ListN.{getD, take, drop}
 use lib.Dec.{eqb, leb}
 use Rattle.octets.specs.Octets.{number, be32, pairs, spread}
+use Rattle.wire.specs.declared.Version.{Version}
+use Rattle.wire.specs.declared.Version.the-variants.{Draft00, Draft02}
 use Rattle.window.specs.Window.{windowSize}
 use Rattle.row.specs.declared.Row.{Row}
 use Rattle.row.specs.declared.Phase.{Phase}
@@ -24,6 +26,10 @@ rowSize = 196
 -- an octet for a phase is 0 to 4, one for a flag 0 or 1
 unfoldable pub phaseOf : ℕ → Phase
 phaseOf n = cond (eqb n 1) Open (cond (eqb n 2) Done (cond (eqb n 3) Cancelled (cond (eqb n 4) Abandoned Free)))
+
+-- an octet for a draft is 1 for draft 00, 0 for draft 02
+unfoldable pub versionOf : ℕ → Version
+versionOf n = cond (eqb n 1) Draft00 Draft02
 
 unfoldable pub isRow : List ℕ → Bool
 isRow xs = leb (getD xs 0 0) 4 && leb (getD xs 1 0) 1
@@ -54,10 +60,16 @@ rowsOf (suc n) xs = rowOf xs ∷ rowsOf n (drop rowSize xs)
 -- whether 3,144 octets are the image of a state, sound or not
 unfoldable pub isImage : List ℕ → Bool
 isImage xs =
-    leb (getD xs 0 0) 1 && eqb (getD xs 1 0) 0 && eqb (getD xs 2 0) 0 && eqb (getD xs 3 0) 0 && areRows windowSize (drop 8 xs)
+    leb (getD xs 0 0) 1 && eqb (getD xs 1 0) 0 && leb (getD xs 2 0) 1 && eqb (getD xs 3 0) 0 && areRows windowSize (drop 8 xs)
 
 unfoldable pub stateOf : List ℕ → State
-stateOf xs = record { present = eqb (getD xs 0 0) 1; greatest = number (drop 4 xs); rows = rowsOf windowSize (drop 8 xs) }
+stateOf xs =
+    record {
+      present = eqb (getD xs 0 0) 1;
+      greatest = number (drop 4 xs);
+      rows = rowsOf windowSize (drop 8 xs);
+      settings = record { version = versionOf (getD xs 2 0) };
+    }
 
 -- ---- to octets
 
@@ -67,6 +79,10 @@ phaseCode Open = 1
 phaseCode Done = 2
 phaseCode Cancelled = 3
 phaseCode Abandoned = 4
+
+abbrev pub versionCode : Version → ℕ
+versionCode Draft00 = 1
+versionCode Draft02 = 0
 
 abbrev pub flag : Bool → ℕ
 flag b = cond b 1 0
@@ -80,4 +96,4 @@ rowsImage [] = []
 rowsImage (r ∷ rs) = rowImage r ++ rowsImage rs
 
 unfoldable pub imageOf : State → List ℕ
-imageOf s = flag (s .present) ∷ 0 ∷ 0 ∷ 0 ∷ be32 (s .greatest) ++ rowsImage (s .rows)
+imageOf s = flag (s .present) ∷ 0 ∷ versionCode (s .settings .version) ∷ 0 ∷ be32 (s .greatest) ++ rowsImage (s .rows)

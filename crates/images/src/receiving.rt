@@ -1,7 +1,9 @@
 // The receiver's state as an image.
 use row::Phase;
 use row::Row;
+use rows::Settings;
 use rows::State;
+use wire::Version;
 ghost use mathlib.Core.Path.{_≡_};
 ghost use mathlib.Core.List.{map};
 ghost use Prim.Native.Nat.{_+_, _*_, _≤_};
@@ -43,6 +45,24 @@ fn phase_code(phase: Phase) -> u8
         Phase::Done => 2,
         Phase::Cancelled => 3,
         Phase::Abandoned => 4,
+    }
+}
+
+pub fn version_of(code: u8) -> Version
+    ensures { λ r. ⌜ r ≡ Spec.versionOf code ⌝ }
+{
+    if code == 1 {
+        return Version::Draft00;
+    }
+    Version::Draft02
+}
+
+pub fn version_code(version: Version) -> u8
+    ensures { λ r. ⌜ r ≡ Spec.versionCode version ⌝ }
+{
+    match version {
+        Version::Draft00 => 1,
+        Version::Draft02 => 0,
     }
 }
 
@@ -138,7 +158,7 @@ fn are_rows(image: &[u8; 3144]) -> bool
 pub fn is_image(image: &[u8; 3144]) -> bool
     ensures { λ r. ⌜ r ≡ Spec.isImage (now (image .entry)) ⌝ }
 {
-    let head = (image[0] <= 1) & (image[1] == 0) & (image[2] == 0) & (image[3] == 0);
+    let head = (image[0] <= 1) & (image[1] == 0) & (image[2] <= 1) & (image[3] == 0);
     head & are_rows(image)
 }
 
@@ -147,10 +167,12 @@ pub fn state_of(image: &[u8; 3144]) -> State
     ensures { λ r. ⌜ r ≡ Spec.stateOf (now (image .entry)) ⌝ }
 {
     let free = row::empty_row(Phase::Free);
+    let version = version_of(image[2]);
     let mut state = State {
         present: image[0] == 1,
         greatest: octets::number_at(image, 4),
         rows: [free; 16],
+        settings: Settings { version },
     };
     let mut k = 0;
     while k < 16 {
@@ -188,8 +210,11 @@ pub fn put_state(image: &mut [u8; 3144], state: State)
     ensures { λ _. ⌜ now (image .exit) ≡ Spec.imageOf state ⌝ }
 {
     let present = flag(state.present);
+    let settings = state.settings;
+    let version = settings.version;
+    let draft = version_code(version);
     let rows = state.rows;
-    octets::put_four(image, 0, [present, 0, 0, 0]);
+    octets::put_four(image, 0, [present, 0, draft, 0]);
     octets::put_number(image, 4, state.greatest);
     put_rows(image, rows);
 }

@@ -1,5 +1,7 @@
 // The sender's state as an image.
 use crate::receiving::flag;
+use crate::receiving::version_code;
+use crate::receiving::version_of;
 use framing::State;
 ghost use mathlib.Core.Path.{_≡_};
 ghost use Prim.Native.Nat.{_+_, _≤_};
@@ -10,7 +12,7 @@ ghost use Rattle.images.specs.Sender as Spec;
 pub fn is_image(image: &[u8; 24]) -> bool
     ensures { λ r. ⌜ r ≡ Spec.isImage (now (image .entry)) ⌝ }
 {
-    (image[8] <= 1) & (image[9] == 0) & (image[10] == 0) & (image[11] == 0)
+    (image[8] <= 1) & (image[9] <= 1) & (image[10] == 0) & (image[11] == 0)
 }
 
 fn wide(n: u16) -> usize
@@ -31,6 +33,7 @@ pub fn state_of(image: &[u8; 24]) -> State
         length: wide(octets::number16_at(image, 16)),
         placed: wide(octets::number16_at(image, 18)),
         index: octets::number_at(image, 20),
+        version: version_of(image[9]),
     }
 }
 
@@ -46,10 +49,12 @@ pub fn put_state(image: &mut [u8; 24], state: State)
     ensures { λ _. ⌜ now (image .exit) ≡ Spec.imageOf state ⌝ }
 {
     let begun = flag(state.begun);
+    let version = state.version;
+    let draft = version_code(version);
     put_low(image, 0, state.size);
     put_low(image, 2, state.fill);
     octets::put_number(image, 4, state.next);
-    octets::put_four(image, 8, [begun, 0, 0, 0]);
+    octets::put_four(image, 8, [begun, draft, 0, 0]);
     octets::put_number(image, 12, state.number);
     put_low(image, 16, state.length);
     put_low(image, 18, state.placed);

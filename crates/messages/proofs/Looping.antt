@@ -13,6 +13,7 @@ use Rattle.octets.proofs.Flags.{bool, both}
 use Rattle.octets.proofs.Put.{length-put}
 use Rattle.wire.specs.Frame.{Item, Scan, row, items, scanned, from, checked}
 use Rattle.wire.specs.declared.Checked.the-variants.{Accepted}
+use Rattle.wire.specs.declared.Version.{Version}
 use Rattle.wire.specs.Layout.{read, message, fitting}
 use Rattle.wire.specs.Message.{answer}
 use Rattle.wire.specs.declared.Fault.{Fault}
@@ -26,6 +27,7 @@ use Rattle.wire.proofs.Items as Items
 use Rattle.wire.proofs.Places.{taken, resume}
 use Rattle.wire.proofs.Spans.{Located, located, sized}
 use Rattle.window.specs.Window.{windowSize, sixteen}
+use Rattle.pieces.specs.declared.Order.{Order}
 use Rattle.pieces.specs.Pieces.{bundleMax}
 use Rattle.row.specs.Row.{emptyRow, soundRow}
 use Rattle.reassembly.specs.Rules.{deliveryOf}
@@ -36,7 +38,7 @@ use Rattle.row.specs.declared.Phase.the-variants.{Free}
 use Rattle.row.specs.declared.Row.{Row}
 use Rattle.reassembly.specs.declared.Taken.{Taken}
 use Rattle.row.proofs.Shaped.{Shaped}
-use Rattle.rows.specs.Message.{Board, Outcome, handedOf, cellAt, step, messagesFrom}
+use Rattle.rows.specs.Message.{orderOf, Board, Outcome, handedOf, cellAt, step, messagesFrom}
 use Rattle.messages.specs.Run.{Run, admits, rowStep, writtenAt, Lands, size, listed, numbered, progressed, advanced, roomy, run, runFrom, Able}
 use Rattle.rows.specs.Visit.{visitOf}
 use Rattle.rows.specs.declared.Origin.{Origin}
@@ -46,9 +48,13 @@ use Rattle.messages.specs.declared.Progress.{Progress}
 use Rattle.rows.specs.declared.Visit.{Visit}
 use Rattle.messages.proofs.Visits.{rowsFor, landed, visited, outcome, landed-step, row-fits, Visiting, visiting, visit-slot, visit-admits, Sound, visited-sound, cell-full, landed-sound}
 
+-- the draft that a run goes by
+abbrev pub versionOf : Run → Version
+versionOf p = p .board .state .settings .version
+
 -- the messages that the loop has yet to treat
-abbrev pub left : List ℕ → Run → List Item
-left frame p = items (scanAt read frame (p .progress .next))
+abbrev pub left : Version → List ℕ → Run → List Item
+left u frame p = items (scanAt (read u) frame (p .progress .next))
 
 -- whether a further message is treated
 abbrev pub goesOn : Limits → List ℕ → Run → Bool
@@ -56,8 +62,8 @@ goesOn limits frame p = ltb (p .progress .next) (length frame) && roomy (p .prog
 
 -- p is how far the run over a frame from p₀ on came
 pub record Going (limits : Limits) (frame : List ℕ) (p₀ p : Run) : Type 0 where
-  pub same : runFrom limits p₀ frame ≡ run windowSize false limits p (left frame p)
-  pub here : scanAt read frame (p .progress .next) ≡ row (left frame p)
+  pub same : runFrom limits p₀ frame ≡ run windowSize (orderOf (versionOf p₀)) limits p (left (versionOf p₀) frame p)
+  pub here : scanAt (read (versionOf p₀)) frame (p .progress .next) ≡ row (left (versionOf p₀) frame p)
   pub ready : Sound windowSize (p .board)
   pub low : p .board .state .greatest < 2 ^ 32
   pub used : p .progress .used ≤ length (p₀ .output)
@@ -70,7 +76,7 @@ pub record Turn (limits : Limits) (frame : List ℕ) (p₀ p : Run) : Type 0 whe
   pub going : Going limits frame p₀ p
   pub test : goesOn limits frame p ≡ true
   pub span : Span
-  pub told : answer (p .progress .next) (read (drop (p .progress .next) frame)) ≡ Good span
+  pub told : answer (p .progress .next) (read (versionOf p₀) (drop (p .progress .next) frame)) ≡ Good span
 
 -- a bundle goes behind those that are out
 advanced-by : (p : Run) (b : Board) (next : ℕ) (origin : Origin) (o : Option (List ℕ))
@@ -119,14 +125,17 @@ items-row : {s : Scan} (is : List Item) → s ≡ row is → items s ≡ is
 unfolding items
 items-row is e = rw e
 
-skip-step : (w : ℕ) (falling : Bool) (b : Board) (k : Kind) (content : List ℕ) → k ≡ Skipped → step w falling b (message k content) ≡ record { board = b; handed = none }
+skip-step : (w : ℕ) (order : Order) (b : Board) (k : Kind) (content : List ℕ) → k ≡ Skipped → step w order b (message k content) ≡ record { board = b; handed = none }
 unfolding step message
-skip-step w falling b k content e = rw e
+skip-step w order b k content e = rw e
 
 -- The message m is read, and goes where v says.
 module _ {limits : Limits} {frame : List ℕ} {p₀ p : Run} (T : Turn limits frame p₀ p) where
   abbrev G : Going limits frame p₀ p
   G = T .going
+
+  abbrev u : Version
+  u = versionOf p₀
 
   abbrev m : Span
   m = T .span
@@ -144,7 +153,7 @@ module _ {limits : Limits} {frame : List ℕ} {p₀ p : Run} (T : Turn limits fr
   v = visitOf windowSize (b .state .present) (b .state .greatest) (message (m .kind) content)
 
   abbrev o : Rules.Outcome
-  o = outcome windowSize false b v content
+  o = outcome windowSize (orderOf u) b v content
 
   tests : (ltb at (length frame) ≡ true) × (roomy (p .progress) limits (length (p .output)) ≡ true)
   tests = both (ltb at (length frame)) (roomy (p .progress) limits (length (p .output))) (T .test)
@@ -167,11 +176,11 @@ module _ {limits : Limits} {frame : List ℕ} {p₀ p : Run} (T : Turn limits fr
   pub room : p .progress .used + bundleMax ≤ length (p .output)
   room = omega (arith, leb-true bundleMax (length (p .output) - p .progress .used) (rooms .1), G .used, G .output)
 
-  pub place : Located frame at m
-  place = located frame at (omega (arith, at<)) m (T .told)
+  pub place : Located u frame at m
+  place = located u frame at (omega (arith, at<)) m (T .told)
 
-  follows : Next frame at m (left frame p)
-  follows = Items.next frame at (left frame p) (G .here) at< m (T .told)
+  follows : Next u frame at m (left u frame p)
+  follows = Items.next u frame at (left u frame p) (G .here) at< m (T .told)
 
   -- a message that is passed over
   pub passed : m .kind ≡ Skipped → Going limits frame p₀ (record { board = b; output = p .output; lengths = p .lengths; numbers = p .numbers; progress = progressed (p .progress) Nothing (m .end) Whole })
@@ -179,7 +188,7 @@ module _ {limits : Limits} {frame : List ℕ} {p₀ p : Run} (T : Turn limits fr
   passed e =
       let r = items-row (follows .rest) (follows .then) in
       record {
-        same = rw r (G .same ∙ rw (follows .first, tests .1, skip-step windowSize false b (m .kind) content e));
+        same = rw r (G .same ∙ rw (follows .first, tests .1, skip-step windowSize (orderOf u) b (m .kind) content e));
         here = rw r (follows .then);
         ready = G .ready;
         low = G .low;
@@ -201,23 +210,23 @@ module _ {limits : Limits} {frame : List ℕ} {p₀ p : Run} (T : Turn limits fr
   pub fits : fitting (m .kind) (length content) ≡ true
   fits = rw length-content (place .fits)
 
-  pub found-sound : soundRow (visited windowSize false b v) ≡ true
-  found-sound = visited-sound windowSize sixteen false b (G .ready) v slot<
+  pub found-sound : soundRow (visited windowSize (orderOf u) b v) ≡ true
+  found-sound = visited-sound windowSize sixteen (orderOf u) b (G .ready) v slot<
 
   pub cell-long : length (cellAt (b .pool) (v .slot)) ≡ bundleMax
-  cell-long = cell-full windowSize sixteen false b (G .ready) v slot<
+  cell-long = cell-full windowSize sixteen (orderOf u) b (G .ready) v slot<
 
   module _ (small : length frame ≤ bundleMax) where
     pub admit : admits (v .act) (length content) ≡ true
     admit = visit-admits windowSize sixteen (b .state .present) (b .state .greatest) (m .kind) content fits (omega (arith, length-content, place .ordered, place .within))
 
-    module _ (shaped : Shaped (visited windowSize false b v)) where
+    module _ (shaped : Shaped (visited windowSize (orderOf u) b v)) where
       bundle-fits : (x : List ℕ) → o .bundle ≡ some x → length x ≤ bundleMax
-      bundle-fits = row-fits false content (visited windowSize false b v) (cellAt (b .pool) (v .slot)) (v .act) admit found-sound shaped cell-long
+      bundle-fits = row-fits (orderOf u) content (visited windowSize (orderOf u) b v) (cellAt (b .pool) (v .slot)) (v .act) admit found-sound shaped cell-long
 
       module _ (low : v .greatest < 2 ^ 32) where
         abbrev done : Outcome
-        done = landed windowSize false b v o
+        done = landed windowSize (orderOf u) b v o
 
         abbrev next : Run
         next = record {
@@ -228,10 +237,10 @@ module _ {limits : Limits} {frame : List ℕ} {p₀ p : Run} (T : Turn limits fr
           progress = progressed (p .progress) (deliveryOf (o .bundle)) (m .end) (v .origin);
         }
 
-        stepped : done ≡ step windowSize false b (message (m .kind) content)
-        stepped = landed-step windowSize sixteen false b (G .ready .rows) (G .ready .pool) (G .low) (m .kind) content low
+        stepped : done ≡ step windowSize (orderOf u) b (message (m .kind) content)
+        stepped = landed-step windowSize sixteen (orderOf u) b (G .ready .rows) (G .ready .pool) (G .low) (m .kind) content low
 
-        same : runFrom limits p₀ frame ≡ run windowSize false limits next (follows .rest)
+        same : runFrom limits p₀ frame ≡ run windowSize (orderOf u) limits next (follows .rest)
         unfolding run
         same = G .same ∙ rw (follows .first, tests .1, ← stepped, advanced-by p (done .board) (m .end) (v .origin) (o .bundle))
 
@@ -244,7 +253,7 @@ module _ {limits : Limits} {frame : List ℕ} {p₀ p : Run} (T : Turn limits fr
             record {
               same = rw (e, r) same;
               here = rw (e, r) (follows .then);
-              ready = landed-sound windowSize sixteen false b (G .ready) content visits shaped;
+              ready = landed-sound windowSize sixteen (orderOf u) b (G .ready) content visits shaped;
               low = low;
               output = written-length (p .progress .used) (o .bundle) (p .output) room′ ∙ G .output;
               used = progressed-used (p .progress) (o .bundle) (m .end) (v .origin) (length (p₀ .output)) (G .used) λ x q. omega (arith, room′ x q, G .output);
@@ -253,23 +262,23 @@ module _ {limits : Limits} {frame : List ℕ} {p₀ p : Run} (T : Turn limits fr
             }
 
     -- what is handed out is no longer than a bundle
-    pub handed-fits : (x : Visit) → x ≡ v → (r : Row) → r ≡ visited windowSize false b v → Shaped r
-        → (t : Taken) (pool output : List ℕ) → Lands (rowStep false (x .act) content r (cellAt (b .pool) (x .slot))) (x .slot) (b .pool) (p .progress .used) (p .output) t pool output
+    pub handed-fits : (x : Visit) → x ≡ v → (r : Row) → r ≡ visited windowSize (orderOf u) b v → Shaped r
+        → (t : Taken) (pool output : List ℕ) → Lands (rowStep (orderOf u) (x .act) content r (cellAt (b .pool) (x .slot))) (x .slot) (b .pool) (p .progress .used) (p .output) t pool output
         → size (t .delivery) ≤ bundleMax
     handed-fits x ex r er z t pool output a = rw (a .delivery) (size-fits _ bundleMax (λ y q. bundle-fits (subst Shaped er z) y (rw (er, ex) at q)))
 
     -- what the code makes of a turn: rows, row, pool, output and progress as they are then
     abbrev Turned : Visit → Type 0
     Turned x =
-        (rows : List Row) → rows ≡ rowsFor windowSize false b x
+        (rows : List Row) → rows ≡ rowsFor windowSize (orderOf u) b x
         → (r : Row) → r ≡ getD rows (x .slot) (emptyRow Free) → Shaped r → x .greatest < 2 ^ 32
-        → (t : Taken) (pool output : List ℕ) → Lands (rowStep false (x .act) content r (cellAt (b .pool) (x .slot))) (x .slot) (b .pool) (p .progress .used) (p .output) t pool output
+        → (t : Taken) (pool output : List ℕ) → Lands (rowStep (orderOf u) (x .act) content r (cellAt (b .pool) (x .slot))) (x .slot) (b .pool) (p .progress .used) (p .output) t pool output
         → (lengths : List ℕ) → lengths ≡ listed (p .progress .count) (t .delivery) (p .lengths)
         → (numbers : List ℕ) → numbers ≡ numbered (p .progress .count) (t .delivery) (x .origin) (p .numbers)
         → (progress : Progress) → progress ≡ progressed (p .progress) (t .delivery) (m .end) (x .origin)
         → Going limits frame p₀
         (record {
-          board = record { state = record { present = x .present; greatest = x .greatest; rows = set rows (x .slot) (t .row) }; pool = pool };
+          board = record { state = record { present = x .present; greatest = x .greatest; rows = set rows (x .slot) (t .row); settings = b .state .settings }; pool = pool };
           output = output;
           lengths = lengths;
           numbers = numbers;
@@ -278,8 +287,8 @@ module _ {limits : Limits} {frame : List ℕ} {p₀ p : Run} (T : Turn limits fr
 
     turned-here : Turned v
     turned-here rows er r ef z low t pool output ans lengths el numbers en progress ep =
-        let re : r ≡ visited windowSize false b v = ef ∙ rw er in
-        let shaped : Shaped (visited windowSize false b v) = subst Shaped re z in
+        let re : r ≡ visited windowSize (orderOf u) b v = ef ∙ rw er in
+        let shaped : Shaped (visited windowSize (orderOf u) b v) = subst Shaped re z in
         let a : Lands o (v .slot) (b .pool) (p .progress .used) (p .output) t pool output = rw re at ans in
         let came : progress ≡ progressed (p .progress) (deliveryOf (o .bundle)) (m .end) (v .origin) = ep ∙ rw (a .delivery) in
         let long : lengths ≡ listed (p .progress .count) (deliveryOf (o .bundle)) (p .lengths) = el ∙ rw (a .delivery) in
@@ -290,34 +299,35 @@ module _ {limits : Limits} {frame : List ℕ} {p₀ p : Run} (T : Turn limits fr
     turned x e = subst Turned (sym e) turned-here
 
 -- the loop begins
-pub begins : (limits : Limits) (frame : List ℕ) (p : Run) → Able (p .board .state) (p .board .pool) (p .output) (p .progress) → checked read frame (p .progress .next) ≡ Accepted → length (p .board .state .rows) ≡ windowSize → p .board .state .greatest < 2 ^ 32 → Going limits frame p p
+pub begins : (limits : Limits) (frame : List ℕ) (p : Run) → Able (p .board .state) (p .board .pool) (p .output) (p .progress) → checked (read (versionOf p)) frame (p .progress .next) ≡ Accepted → length (p .board .state .rows) ≡ windowSize → p .board .state .greatest < 2 ^ 32 → Going limits frame p p
 unfolding messagesFrom
 begins limits frame p A accepted rows low =
+    let u : Version = versionOf p in
     let place : ℕ = p .progress .next in
-    let t = taken read sized frame place accepted in
-    let here : scanAt read frame place ≡ row (from place (t .items)) = resume read sized frame place (t .items) (t .whole) (t .good-place) in
-    let left′ : items (scanAt read frame place) ≡ from place (t .items) = items-row (from place (t .items)) here in
-    let all : items (scanned read frame) ≡ t .items = items-row (t .items) (t .whole) in
+    let t = taken (read u) (sized u) frame place accepted in
+    let here : scanAt (read u) frame place ≡ row (from place (t .items)) = resume (read u) (sized u) frame place (t .items) (t .whole) (t .good-place) in
+    let left′ : items (scanAt (read u) frame place) ≡ from place (t .items) = items-row (from place (t .items)) here in
+    let all : items (scanned (read u) frame) ≡ t .items = items-row (t .items) (t .whole) in
     record { same = rw (all, left′); here = rw left′ here; ready = record { sound = A .sound; rows = rows; pool = A .pooled }; low = low; used = A .used; output = refl; lengths = refl; numbers = refl }
 
 -- the loop ends: no message is left, or the limits are reached
-stops : (limits : Limits) (p : Run) (is : List Item) → roomy (p .progress) limits (length (p .output)) ≡ false → run windowSize false limits p is ≡ p
+stops : (order : Order) (limits : Limits) (p : Run) (is : List Item) → roomy (p .progress) limits (length (p .output)) ≡ false → run windowSize order limits p is ≡ p
 unfolding run
-stops limits p [] e = refl
-stops limits p (i ∷ is) e = rw e
+stops order limits p [] e = refl
+stops order limits p (i ∷ is) e = rw e
 
 module _ {limits : Limits} {frame : List ℕ} {p₀ p : Run} (G : Going limits frame p₀ p) where
   pub ends : goesOn limits frame p ≡ false → p ≡ runFrom limits p₀ frame
   unfolding run
   ends test = sym (G .same ∙ go (bool (ltb (p .progress .next) (length frame))))
     where
-      go : (ltb (p .progress .next) (length frame) ≡ true) ⊎ (ltb (p .progress .next) (length frame) ≡ false) → run windowSize false limits p (left frame p) ≡ p
-      go (inl e) = stops limits p (left frame p) (rw e at test)
-      go (inr e) = rw (Items.finished frame (p .progress .next) (left frame p) (G .here) (ltb-false (p .progress .next) (length frame) e))
+      go : (ltb (p .progress .next) (length frame) ≡ true) ⊎ (ltb (p .progress .next) (length frame) ≡ false) → run windowSize (orderOf (versionOf p₀)) limits p (left (versionOf p₀) frame p) ≡ p
+      go (inl e) = stops (orderOf (versionOf p₀)) limits p (left (versionOf p₀) frame p) (rw e at test)
+      go (inr e) = rw (Items.finished (versionOf p₀) frame (p .progress .next) (left (versionOf p₀) frame p) (G .here) (ltb-false (p .progress .next) (length frame) e))
 
   -- a message is left, and no message of an accepted frame is bad
   pub some-left : goesOn limits frame p ≡ true → p .progress .next < length frame
   some-left test = ltb-true (p .progress .next) (length frame) (both (ltb (p .progress .next) (length frame)) (roomy (p .progress) limits (length (p .output))) test .0)
 
-  pub never-bad : {A : Type 0} → goesOn limits frame p ≡ true → (q : Fault) → answer (p .progress .next) (read (drop (p .progress .next) frame)) ≡ Bad q → A
-  never-bad test q told = Items.never frame (p .progress .next) (left frame p) (G .here) (some-left test) q told
+  pub never-bad : {A : Type 0} → goesOn limits frame p ≡ true → (q : Fault) → answer (p .progress .next) (read (versionOf p₀) (drop (p .progress .next) frame)) ≡ Bad q → A
+  never-bad test q told = Items.never (versionOf p₀) frame (p .progress .next) (left (versionOf p₀) frame p) (G .here) (some-left test) q told

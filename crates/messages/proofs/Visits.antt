@@ -19,6 +19,7 @@ use Rattle.window.specs.Window.{Window, standingOf}
 use Rattle.window.specs.declared.Standing.{Standing}
 use Rattle.window.specs.declared.Standing.the-variants.{Inside, New, Outside}
 use Rattle.window.proofs.Entering.{entered, inside-present, row-below}
+use Rattle.pieces.specs.declared.Order.{Order}
 use Rattle.pieces.specs.Pieces.{bundleMax}
 use Rattle.row.specs.Row.{emptyRow, soundRow}
 use Rattle.reassembly.specs.Rules.{cancelStep}
@@ -60,7 +61,7 @@ opened-some slot d rows h = rw (lt-ltb 0 d h)
 pub opened-none : (slot d : ℕ) (rows : List Row) → d ≤ 0 → rows ≡ opened slot d rows
 opened-none slot d rows h = rw (le-ltb 0 d h)
 
-module _ (w : ℕ) (falling : Bool) (b : Board) where
+module _ (w : ℕ) (order : Order) (b : Board) where
   -- the rows that a visit finds
   abbrev pub rowsFor : Visit → List Row
   rowsFor v = opened (v .slot) (v .entered) (cleared w (b .state .greatest) (v .entered) (b .state .rows))
@@ -69,7 +70,7 @@ module _ (w : ℕ) (falling : Bool) (b : Board) where
   abbrev pub landed : Visit → Rules.Outcome → Outcome
   landed v o = record {
     board = record {
-      state = record { present = v .present; greatest = v .greatest; rows = set (rowsFor v) (v .slot) (o .row) };
+      state = record { present = v .present; greatest = v .greatest; rows = set (rowsFor v) (v .slot) (o .row); settings = b .state .settings };
       pool = putCell (b .pool) (v .slot) (o .cell);
     };
     handed = handedOf (v .origin) (o .bundle);
@@ -80,22 +81,22 @@ module _ (w : ℕ) (falling : Bool) (b : Board) where
   visited v = getD (rowsFor v) (v .slot) (emptyRow Free)
 
   abbrev pub outcome : Visit → List ℕ → Rules.Outcome
-  outcome v content = rowStep falling (v .act) content (visited v) (cellAt (b .pool) (v .slot))
+  outcome v content = rowStep order (v .act) content (visited v) (cellAt (b .pool) (v .slot))
 
-module _ (w : ℕ) (win : Window w) (falling : Bool) (b : Board) (full : length (b .state .rows) ≡ w) (pooled : length (b .pool) ≡ w * bundleMax) where
+module _ (w : ℕ) (win : Window w) (order : Order) (b : Board) (full : length (b .state .rows) ≡ w) (pooled : length (b .pool) ≡ w * bundleMax) where
   abbrev s : State
   s = b .state
 
   positive : 0 < w
   positive = omega (arith, row-below w win 0)
 
-  passed : (o : Option (List ℕ)) (act : Act) → landed w falling b (stay (s .present) (s .greatest) act) (record { row = getD (s .rows) 0 (emptyRow Free); cell = cellAt (b .pool) 0; bundle = o })
+  passed : (o : Option (List ℕ)) (act : Act) → landed w order b (stay (s .present) (s .greatest) act) (record { row = getD (s .rows) 0 (emptyRow Free); cell = cellAt (b .pool) 0; bundle = o })
       ≡ record { board = b; handed = handedOf Whole o }
   passed o act = rw (set-getD (s .rows) 0 (emptyRow Free), same-cell w (b .pool) pooled 0 positive)
 
-  module _ (low : s .greatest < 2 ^ 32) (content : List ℕ) (t : ℕ) (act : Act) (rule : Row → List ℕ → Rules.Outcome) (does : (r : Row) (cell : List ℕ) → rowStep falling act content r cell ≡ rule r cell) where
+  module _ (low : s .greatest < 2 ^ 32) (content : List ℕ) (t : ℕ) (act : Act) (rule : Row → List ℕ → Rules.Outcome) (does : (r : Row) (cell : List ℕ) → rowStep order act content r cell ≡ rule r cell) where
     landed-transfer : (d : Standing) → standingOf w (s .present) (s .greatest) t ≡ d → transferVisit w d (s .present) (s .greatest) act t .greatest < 2 ^ 32
-        → let v : Visit = transferVisit w d (s .present) (s .greatest) act t in landed w falling b v (outcome w falling b v content) ≡ treatTransfer w d rule b t
+        → let v : Visit = transferVisit w d (s .present) (s .greatest) act t in landed w order b v (outcome w order b v content) ≡ treatTransfer w d rule b t
     unfolding transferVisit treatTransfer inRow moved rowStep handedOf
     landed-transfer Inside e t< = rw does
     landed-transfer (New d) e t< =
@@ -104,7 +105,7 @@ module _ (w : ℕ) (win : Window w) (falling : Bool) (b : Board) (full : length 
     landed-transfer Outside e t< = passed none Pass
 
   pub landed-step : s .greatest < 2 ^ 32 → (k : Kind) (content : List ℕ) → visitOf w (s .present) (s .greatest) (message k content) .greatest < 2 ^ 32
-      → let v : Visit = visitOf w (s .present) (s .greatest) (message k content) in landed w falling b v (outcome w falling b v content) ≡ step w falling b (message k content)
+      → let v : Visit = visitOf w (s .present) (s .greatest) (message k content) in landed w order b v (outcome w order b v content) ≡ step w order b (message k content)
   unfolding visitOf message step rowStep handedOf
   landed-step low Kinds.Skipped content t< = passed none Pass
   landed-step low Kinds.Bundle content t< = passed (some content) HandOut
@@ -117,32 +118,32 @@ module _ (w : ℕ) (win : Window w) (falling : Bool) (b : Board) (full : length 
 none-some : {A : Type 0} {x : List ℕ} → none ≡ some x → A
 none-some e = absurd (let z : _≡_ {A = ℕ} 0 1 = cc in omega arith)
 
-module _ (falling : Bool) (content : List ℕ) (r : Row) (cell : List ℕ) where
-  row-sound : (act : Act) → soundRow r ≡ true → Shaped r → soundRow (rowStep falling act content r cell .row) ≡ true
+module _ (order : Order) (content : List ℕ) (r : Row) (cell : List ℕ) where
+  row-sound : (act : Act) → soundRow r ≡ true → Shaped r → soundRow (rowStep order act content r cell .row) ≡ true
   unfolding rowStep cancelStep
   row-sound Pass s z = s
   row-sound HandOut s z = s
-  row-sound (Piece ending) s z = piece-sound falling ending (number (drop 4 content)) (drop 8 content) r cell s z
+  row-sound (Piece ending) s z = piece-sound order ending (number (drop 4 content)) (drop 8 content) r cell s z
   row-sound Cancel s z = cancel-sound r s
 
-  pub row-cell : (act : Act) → length cell ≡ bundleMax → length (rowStep falling act content r cell .cell) ≡ bundleMax
+  pub row-cell : (act : Act) → length cell ≡ bundleMax → length (rowStep order act content r cell .cell) ≡ bundleMax
   unfolding rowStep cancelStep
   row-cell Pass l = l
   row-cell HandOut l = l
-  row-cell (Piece ending) l = piece-cell falling ending (number (drop 4 content)) (drop 8 content) r cell l
+  row-cell (Piece ending) l = piece-cell order ending (number (drop 4 content)) (drop 8 content) r cell l
   row-cell Cancel l = l
 
   pub row-fits : (act : Act) → admits act (length content) ≡ true → soundRow r ≡ true → Shaped r → length cell ≡ bundleMax
-      → (x : List ℕ) → rowStep falling act content r cell .bundle ≡ some x → length x ≤ bundleMax
+      → (x : List ℕ) → rowStep order act content r cell .bundle ≡ some x → length x ≤ bundleMax
   unfolding rowStep cancelStep
   row-fits Pass a s z l x e = none-some e
   row-fits HandOut a s z l x e = let q : content ≡ x = cc in rw (← q) (leb-true (length content) bundleMax a)
-  row-fits (Piece ending) a s z l x e = piece-bundle-fits falling ending (number (drop 4 content)) (drop 8 content) r cell x s z l e
+  row-fits (Piece ending) a s z l x e = piece-bundle-fits order ending (number (drop 4 content)) (drop 8 content) r cell x s z l e
   row-fits Cancel a s z l x e = none-some e
 
 -- A visit stays where the window is, and leaves row 0 as it is; or it goes to a row of a window that has a greatest number.
 pub data Visiting (w : ℕ) (present : Bool) (g : ℕ) : Visit → Type 0 where
-  stays : (act : Act) → ((falling : Bool) (content : List ℕ) (r : Row) (cell : List ℕ) → rowStep falling act content r cell .row ≡ r) → Visiting w present g (stay present g act)
+  stays : (act : Act) → ((order : Order) (content : List ℕ) (r : Row) (cell : List ℕ) → rowStep order act content r cell .row ≡ r) → Visiting w present g (stay present g act)
   goes : (v : Visit) → v .slot < w → v .present ≡ true → Visiting w present g v
 
 module _ (w : ℕ) (win : Window w) (present : Bool) (g : ℕ) where
@@ -150,12 +151,12 @@ module _ (w : ℕ) (win : Window w) (present : Bool) (g : ℕ) where
   unfolding transferVisit rowStep
   visiting-transfer act t Inside e = goes _ (row-below w win t) (inside-present w g present t e)
   visiting-transfer act t (New d) e = goes _ (row-below w win t) refl
-  visiting-transfer act t Outside e = stays Pass λ falling content r cell. refl
+  visiting-transfer act t Outside e = stays Pass λ order content r cell. refl
 
   pub visiting : (m : Message) → Visiting w present g (visitOf w present g m)
   unfolding visitOf rowStep
-  visiting skipped = stays Pass λ falling content r cell. refl
-  visiting (bundle c) = stays HandOut λ falling content r cell. refl
+  visiting skipped = stays Pass λ order content r cell. refl
+  visiting (bundle c) = stays HandOut λ order content r cell. refl
   visiting (segment t i d) = visiting-transfer (Piece false) t _ refl
   visiting (last t i d) = visiting-transfer (Piece true) t _ refl
   visiting (cancel t) = visiting-transfer Cancel t _ refl
@@ -185,47 +186,47 @@ pub record Sound (w : ℕ) (b : Board) : Type 0 where
   pub rows : length (b .state .rows) ≡ w
   pub pool : length (b .pool) ≡ w * bundleMax
 
-module _ (w : ℕ) (win : Window w) (falling : Bool) (b : Board) (R : Sound w b) where
+module _ (w : ℕ) (win : Window w) (order : Order) (b : Board) (R : Sound w b) where
   rows-sound : soundRows (b .state .present) (b .state .rows) ≡ true
   unfolding sound
   rows-sound = both (b .state .present || eqb (b .state .greatest) 0) (soundRows (b .state .present) (b .state .rows)) (R .sound) .1
 
-  rows-for-sound : (v : Visit) → soundRows true (rowsFor w falling b v) ≡ true
+  rows-for-sound : (v : Visit) → soundRows true (rowsFor w order b v) ≡ true
   rows-for-sound v =
       let s = sound-present (b .state .present) (b .state .rows) rows-sound in
       let c = cond-elim (λ (rows : List Row). soundRows true rows ≡ true) (ltb 1 (v .entered)) (λ _. sound-freed w 0 (b .state .greatest) (v .entered) (b .state .rows) s) (λ _. s) in
       cond-elim (λ (rows : List Row). soundRows true rows ≡ true) (ltb 0 (v .entered)) (λ _. sound-set true _ (v .slot) (emptyRow Free) c (sound-in _ (empty-sound Free refl))) (λ _. c)
 
-  pub rows-for-full : (v : Visit) → length (rowsFor w falling b v) ≡ w
+  pub rows-for-full : (v : Visit) → length (rowsFor w order b v) ≡ w
   rows-for-full v =
       let c = cond-elim (λ (rows : List Row). length rows ≡ w) (ltb 1 (v .entered)) (λ _. length-freed w 0 (b .state .greatest) (v .entered) (b .state .rows) ∙ R .rows) (λ _. R .rows) in
       cond-elim (λ (rows : List Row). length rows ≡ w) (ltb 0 (v .entered)) (λ _. length-set (cleared w (b .state .greatest) (v .entered) (b .state .rows)) (v .slot) (emptyRow Free) ∙ c) (λ _. c)
 
   -- the row that a visit finds is sound
-  pub visited-sound : (v : Visit) → v .slot < w → soundRow (visited w falling b v) ≡ true
-  visited-sound v h = both _ true (sound-get true (rowsFor w falling b v) (v .slot) (emptyRow Free) (omega (arith, rows-for-full v)) (rows-for-sound v)) .0
+  pub visited-sound : (v : Visit) → v .slot < w → soundRow (visited w order b v) ≡ true
+  visited-sound v h = both _ true (sound-get true (rowsFor w order b v) (v .slot) (emptyRow Free) (omega (arith, rows-for-full v)) (rows-for-sound v)) .0
 
   pub cell-full : (v : Visit) → v .slot < w → length (cellAt (b .pool) (v .slot)) ≡ bundleMax
   cell-full v h = length-cell w (b .pool) (R .pool) (v .slot) h
 
   module _ (content : List ℕ) where
-    state-sound : {v : Visit} → Visiting w (b .state .present) (b .state .greatest) v → Shaped (visited w falling b v) → sound (landed w falling b v (outcome w falling b v content) .board .state) ≡ true
+    state-sound : {v : Visit} → Visiting w (b .state .present) (b .state .greatest) v → Shaped (visited w order b v) → sound (landed w order b v (outcome w order b v content) .board .state) ≡ true
     unfolding sound
     state-sound (stays act h) z =
         let s : State = b .state in
         let r = sound-get (s .present) (s .rows) 0 (emptyRow Free) (omega (arith, R .rows, row-below w win 0)) rows-sound in
         and (s .present || eqb (s .greatest) 0) _ (both (s .present || eqb (s .greatest) 0) (soundRows (s .present) (s .rows)) (R .sound) .0)
-        (sound-set (s .present) (s .rows) 0 _ rows-sound (rw (h falling content (getD (s .rows) 0 (emptyRow Free)) (cellAt (b .pool) 0)) r))
+        (sound-set (s .present) (s .rows) 0 _ rows-sound (rw (h order content (getD (s .rows) 0 (emptyRow Free)) (cellAt (b .pool) 0)) r))
     state-sound (goes v h p) z =
-        rw p (sound-set true (rowsFor w falling b v) (v .slot) _ (rows-for-sound v)
-        (sound-in _ (row-sound falling content (visited w falling b v) (cellAt (b .pool) (v .slot)) (v .act) (visited-sound v h) z)))
+        rw p (sound-set true (rowsFor w order b v) (v .slot) _ (rows-for-sound v)
+        (sound-in _ (row-sound order content (visited w order b v) (cellAt (b .pool) (v .slot)) (v .act) (visited-sound v h) z)))
 
-    pub landed-sound : {v : Visit} → Visiting w (b .state .present) (b .state .greatest) v → Shaped (visited w falling b v) → Sound w (landed w falling b v (outcome w falling b v content) .board)
+    pub landed-sound : {v : Visit} → Visiting w (b .state .present) (b .state .greatest) v → Shaped (visited w order b v) → Sound w (landed w order b v (outcome w order b v content) .board)
     landed-sound {v} g z =
         let h = visit-slot w win (b .state .present) (b .state .greatest) g in
-        let o = outcome w falling b v content in
+        let o = outcome w order b v content in
         record {
           sound = state-sound g z;
-          rows = length-set (rowsFor w falling b v) (v .slot) (o .row) ∙ rows-for-full v;
-          pool = length-put-cell w (b .pool) (R .pool) (v .slot) h (o .cell) (row-cell falling content (visited w falling b v) (cellAt (b .pool) (v .slot)) (v .act) (cell-full v h));
+          rows = length-set (rowsFor w order b v) (v .slot) (o .row) ∙ rows-for-full v;
+          pool = length-put-cell w (b .pool) (R .pool) (v .slot) h (o .cell) (row-cell order content (visited w order b v) (cellAt (b .pool) (v .slot)) (v .act) (cell-full v h));
         }

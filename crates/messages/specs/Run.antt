@@ -9,6 +9,7 @@ use lib.ListN.{length, drop, set}
 use lib.Dec.{ltb, leb}
 use Rattle.octets.specs.Octets.{number, put}
 use Rattle.wire.specs.Frame.{Item}
+use Rattle.pieces.specs.declared.Order.{Order}
 use Rattle.row.specs.declared.Row.{Row}
 use Rattle.reassembly.specs.declared.Delivery.{Delivery}
 use Rattle.reassembly.specs.declared.Delivery.the-variants.{Nothing, Bundle}
@@ -34,11 +35,11 @@ admits (Piece ending) n = leb 8 n
 admits Cancel n = true
 
 -- what a message with a content does to its row
-unfoldable pub rowStep : Bool → Act → List ℕ → Row → List ℕ → Rules.Outcome
-rowStep falling Pass content r cell = silent r cell
-rowStep falling HandOut content r cell = record { row = r; cell = cell; bundle = some content }
-rowStep falling (Piece ending) content r cell = pieceStep falling ending (number (drop 4 content)) (drop 8 content) r cell
-rowStep falling Cancel content r cell = cancelStep r cell
+unfoldable pub rowStep : Order → Act → List ℕ → Row → List ℕ → Rules.Outcome
+rowStep order Pass content r cell = silent r cell
+rowStep order HandOut content r cell = record { row = r; cell = cell; bundle = some content }
+rowStep order (Piece ending) content r cell = pieceStep order ending (number (drop 4 content)) (drop 8 content) r cell
+rowStep order Cancel content r cell = cancelStep r cell
 
 -- the output with a bundle, if there is one, behind the octets used
 unfoldable pub writtenAt : ℕ → Option (List ℕ) → List ℕ → List ℕ
@@ -108,18 +109,18 @@ advanced p b next (some h) =
 abbrev pub roomy : Progress → Limits → ℕ → Bool
 roomy p limits size = ltb (p .treated) (limits .messages) && (ltb (p .count) (limits .bundles) && leb bundleMax (size - p .used))
 
-module _ (w : ℕ) (falling : Bool) (limits : Limits) where
+module _ (w : ℕ) (order : Order) (limits : Limits) where
   unfoldable pub run : Run → List Item → Run
   run p [] = p
   run p (i ∷ is) =
-      let o : Outcome = step w falling (p .board) (i .message) in
+      let o : Outcome = step w order (p .board) (i .message) in
       cond (roomy (p .progress) limits (length (p .output))) (run (advanced p (o .board) (i .next) (o .handed)) is) p
 
 -- the messages of a frame from the progress's place on
 abbrev pub runFrom : Limits → Run → List ℕ → Run
 runFrom limits r frame =
     let s : State = r .board .state in
-    run (windowOf s) (draftOf s .falling) limits r (messagesFrom (draftOf s) frame (r .progress .next))
+    run (windowOf s) (draftOf s .order) limits r (messagesFrom (draftOf s) frame (r .progress .next))
 
 -- a sound state with its pool, and bundles within the output
 pub record Able (state : State) (pool output : List ℕ) (progress : Progress) : Type 0 where

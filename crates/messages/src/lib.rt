@@ -1,17 +1,20 @@
 // The message loop: messages of a frame treated one after the other (document 01, "Receiving call").
 use pieces::BUNDLE_MAX;
+use pieces::Order;
 use reassembly::Delivery;
 use reassembly::Taken;
 use row::Phase;
 use row::Row;
 use rows::Act;
 use rows::Origin;
+use rows::Settings;
 use rows::State;
 use rows::Visit;
 use wire::Kind;
 use wire::Reading;
+use wire::Version;
 ghost use mathlib.Core.Path.{_≡_};
-ghost use mathlib.Core.Bool.{true, false, _&&_};
+ghost use mathlib.Core.Bool.{true, _&&_};
 ghost use Prim.Native.Nat.{_+_, _*_, _≤_, _<_, _^_};
 ghost use lib.ListN.{length, set};
 ghost use lib.Dec.{ltb};
@@ -21,7 +24,7 @@ ghost use Rattle.window.specs.Window.{windowSize};
 ghost use Rattle.pieces.specs.Pieces.{bundleMax};
 ghost use Rattle.row.specs.Row.{soundRow};
 ghost use Rattle.reassembly.specs.Rules.{Answers};
-ghost use Rattle.rows.specs.Message.{draftOf, cellAt};
+ghost use Rattle.rows.specs.Message.{orderOf, draftOf, cellAt};
 ghost use Rattle.messages.specs.Run as Loop;
 
 // Messages treated, bundles handed out, their octets, the next message's start, and the last bundle's origin.
@@ -45,9 +48,16 @@ pub struct Ran {
 }
 
 // A message with its content, for its row; a bundle goes to the front of `out`. (That the row has 64 entries is known only of a parameter.)
-fn row_turn(row: Row, act: Act, cell: &mut [u8], content: &[u8], out: &mut [u8]) -> Taken
+fn row_turn(
+    order: Order,
+    row: Row,
+    act: Act,
+    cell: &mut [u8],
+    content: &[u8],
+    out: &mut [u8],
+) -> Taken
     requires { ⌜ (soundRow row ≡ true) × (Loop.admits act (length (now content)) ≡ true) × (length (now cell) ≡ bundleMax) × (bundleMax ≤ length (now out)) ⌝ }
-    ensures { λ r. ⌜ (Answers (Loop.rowStep false act (now (content .entry)) row (now (cell .entry))) (now (out .entry)) r (now (cell .exit)) (now (out .exit))) × (length (row .indexes) ≡ 64) × (length (row .lengths) ≡ 64) ⌝ }
+    ensures { λ r. ⌜ (Answers (Loop.rowStep order act (now (content .entry)) row (now (cell .entry))) (now (out .entry)) r (now (cell .exit)) (now (out .exit))) × (length (row .indexes) ≡ 64) × (length (row .lengths) ≡ 64) ⌝ }
 {
     match act {
         Act::Pass => Taken {
@@ -63,7 +73,7 @@ fn row_turn(row: Row, act: Act, cell: &mut [u8], content: &[u8], out: &mut [u8])
         }
         Act::Piece(ending) => {
             let index = octets::number_at(content, 4);
-            reassembly::take_piece(row, cell, index, &content[8..], ending, out)
+            reassembly::take_piece(order, row, cell, index, &content[8..], ending, out)
         }
         Act::Cancel => Taken {
             delivery: Delivery::Nothing,
@@ -74,6 +84,7 @@ fn row_turn(row: Row, act: Act, cell: &mut [u8], content: &[u8], out: &mut [u8])
 
 // A message for the row that it goes to: the row's cell is lent on, and what the bundles have left of the output.
 fn cell_turn(
+    version: Version,
     row: Row,
     v: Visit,
     pool: &mut [u8],
@@ -82,12 +93,19 @@ fn cell_turn(
     used: usize,
 ) -> Taken
     requires { ⌜ (soundRow row ≡ true) × (Loop.admits (v .act) (length (now content)) ≡ true) × (v .slot < windowSize) × (length (now pool) ≡ windowSize * bundleMax) × (used + bundleMax ≤ length (now output)) ⌝ }
-    ensures { λ r. ⌜ (Loop.Lands (Loop.rowStep false (v .act) (now (content .entry)) row (cellAt (now (pool .entry)) (v .slot))) (v .slot) (now (pool .entry)) used (now (output .entry)) r (now (pool .exit)) (now (output .exit))) × (length (row .indexes) ≡ 64) × (length (row .lengths) ≡ 64) ⌝ }
+    ensures { λ r. ⌜ (Loop.Lands (Loop.rowStep (orderOf version) (v .act) (now (content .entry)) row (cellAt (now (pool .entry)) (v .slot))) (v .slot) (now (pool .entry)) used (now (output .entry)) r (now (pool .exit)) (now (output .exit))) × (length (row .indexes) ≡ 64) × (length (row .lengths) ≡ 64) ⌝ }
 {
     let base = v.slot * BUNDLE_MAX;
     let top = base + BUNDLE_MAX;
     let act = v.act;
-    row_turn(row, act, &mut pool[base..top], content, &mut output[used..])
+    row_turn(
+        rows::order_of(version),
+        row,
+        act,
+        &mut pool[base..top],
+        content,
+        &mut output[used..],
+    )
 }
 
 // The transfer number, or one that no transfer has.
@@ -193,6 +211,25 @@ fn more(p: Progress, limits: Limits, frame: usize, output: usize) -> bool
     (p.next < frame) & roomy(p, limits, output)
 }
 
+// What the loop leaves.
+fn ended(
+    progress: Progress,
+    present: bool,
+    greatest: u32,
+    rows: [Row; 16],
+    settings: Settings,
+) -> Ran
+    ensures { λ r. ⌜ r ≡ record { progress = progress; state = record { present = present; greatest = greatest; rows = rows; settings = settings } } ⌝ }
+{
+    let state = State {
+        present,
+        greatest,
+        rows,
+        settings,
+    };
+    Ran { progress, state }
+}
+
 // Goes on from a progress with the messages of a frame, until a limit is reached or the output lacks room for a further bundle.
 pub fn run(
     state: State,
@@ -213,12 +250,14 @@ pub fn run(
         ≡ Loop.runFrom limits (Loop.going state (now (pool .entry)) (now (output .entry)) (now (lengths .entry)) (now (numbers .entry)) from) (now (frame .entry)))
         × (Loop.Able (r .state) (now (pool .exit)) (now (output .exit)) (r .progress)) ⌝ }
 {
+    let settings = state.settings;
+    let version = settings.version;
     let mut present = state.present;
     let mut greatest = state.greatest;
     let mut rows = state.rows;
     let mut progress = from;
     while more(progress, limits, frame.len(), output.len()) {
-        let Reading::Good(m) = wire::read_message(frame, progress.next) else {
+        let Reading::Good(m) = wire::read_message(version, frame, progress.next) else {
             break;
         };
         let kind = m.kind;
@@ -239,7 +278,7 @@ pub fn run(
         if 0 < v.entered {
             rows[slot] = row::empty_row(Phase::Free);
         }
-        let t = cell_turn(rows[slot], v, pool, content, output, progress.used);
+        let t = cell_turn(version, rows[slot], v, pool, content, output, progress.used);
         let next = t.row;
         rows[slot] = next;
         let delivery = t.delivery;
@@ -247,10 +286,5 @@ pub fn run(
         list_bundle(lengths, numbers, progress.count, delivery, origin);
         progress = progressed(progress, delivery, end, origin);
     }
-    let state = State {
-        present,
-        greatest,
-        rows,
-    };
-    Ran { progress, state }
+    ended(progress, present, greatest, rows, settings)
 }

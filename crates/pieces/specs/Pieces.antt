@@ -7,6 +7,8 @@ use Prim.Native.Nat.{ℕ, zero, suc, _+_}
 use lib.ListN.{length, take, drop}
 use lib.Dec.{ltb, eqb}
 use Rattle.octets.specs.Octets.{put}
+use Rattle.pieces.specs.declared.Order.{Order}
+use Rattle.pieces.specs.declared.Order.the-variants.{Rising, Falling}
 
 -- the most octets of a bundle, and so of the cell where its pieces lie
 abbrev pub bundleMax : ℕ
@@ -56,10 +58,11 @@ sizeOf i (j ∷ js) (l ∷ ls) = cond (eqb j i) l (sizeOf i js ls)
 unfoldable pub piece : ℕ → List ℕ → List ℕ → List ℕ → List ℕ
 piece i is ls cell = take (sizeOf i is ls) (drop (startOf i is ls) cell)
 
--- the pieces of the indexes below n joined, in rising order of index (document 01) or in falling order
-unfoldable pub joined : Bool → ℕ → List ℕ → List ℕ → List ℕ → List ℕ
-joined falling zero is ls cell = []
-joined falling (suc n) is ls cell = cond falling (piece n is ls cell ++ joined falling n is ls cell) (joined falling n is ls cell ++ piece n is ls cell)
+-- the pieces of the indexes below n joined, in an order of index
+unfoldable pub joined : Order → ℕ → List ℕ → List ℕ → List ℕ → List ℕ
+joined order zero is ls cell = []
+joined Rising (suc n) is ls cell = joined Rising n is ls cell ++ piece n is ls cell
+joined Falling (suc n) is ls cell = piece n is ls cell ++ joined Falling n is ls cell
 
 -- the bundle stands at the front of the output, the rest stays, and n is its length
 pub record Joined (bundle before : List ℕ) (n : ℕ) (after : List ℕ) : Type 0 where

@@ -2,9 +2,11 @@
 use mathlib.Core.Path.{_≡_}
 use mathlib.Core.Bool.{cond}
 use mathlib.Core.List.{List}
-use Prim.Native.Nat.{ℕ, _+_}
+use Prim.Native.Nat.{ℕ, suc, _+_, _-_}
 use lib.ListN.{getD, set}
 use lib.Dec.{ltb, eqb}
+use Rattle.pieces.specs.declared.Order.{Order}
+use Rattle.pieces.specs.declared.Order.the-variants.{Rising, Falling}
 use Rattle.pieces.specs.declared.Scan.{Scan}
 use Rattle.pieces.specs.Pieces.{has, hasAbove}
 use Rattle.pieces.specs.Note.{absent}
@@ -21,3 +23,8 @@ pastLower n is k i = cond (ltb k n) (cond (ltb (getD is k 0) i) (k + 1) k) k
 -- a list of the note after one piece: x at its index i, unless a piece of that index is noted
 unfoldable pub noted : List ℕ → ℕ → ℕ → List ℕ → List ℕ
 noted starts i x xs = cond (eqb (getD starts i 0) absent) (set xs i x) xs
+
+-- the index that is joined as the k-th of n, from 0 on
+abbrev pub ordered : Order → ℕ → ℕ → ℕ
+ordered Rising n k = k
+ordered Falling n k = n - suc k

@@ -1,6 +1,6 @@
 // The pieces of one transfer in order of arrival, as a list of indexes and a list of lengths: searching, counting and joining them.
 ghost use mathlib.Core.Path.{_≡_};
-ghost use mathlib.Core.Bool.{false, _&&_};
+ghost use mathlib.Core.Bool.{_&&_};
 ghost use Prim.Native.Nat.{_+_, _≤_, _<_};
 ghost use lib.ListN.{length, take, drop, replicate};
 ghost use Rattle.octets.specs.Octets.{put, sumOf};
@@ -11,6 +11,12 @@ ghost use Rattle.pieces.specs.Search as Search;
 
 // The most octets of a bundle: of the cell where its pieces lie, and the least output.
 pub const BUNDLE_MAX: usize = 4096;
+
+// The order of index in which pieces are joined.
+pub enum Order {
+    Rising,
+    Falling,
+}
 
 // Whether an index is held, and whether one above it is.
 pub struct Scan {
@@ -164,8 +170,20 @@ pub fn distinct(indexes: &[u8], held: usize) -> bool
     !twice
 }
 
-// Joins the pieces from index 0 to last at the front of `out`, in rising order of index; answers the length.
+// The index that is joined as the one of a place, from 0 on.
+fn ordered(order: Order, last: u8, place: u8) -> u8
+    requires { ⌜ (place ≤ last) × (last < 64) ⌝ }
+    ensures { λ r. ⌜ r ≡ Search.ordered order (last + 1) place ⌝ }
+{
+    match order {
+        Order::Rising => place,
+        Order::Falling => last - place,
+    }
+}
+
+// Joins the pieces from index 0 to last at the front of `out`, in an order of index; answers the length.
 pub fn join<'a>(
+    order: Order,
     indexes: &'a [u8],
     lengths: &'a [u16],
     held: usize,
@@ -175,7 +193,7 @@ pub fn join<'a>(
 ) -> usize
     requires { ⌜ (held ≤ length (now indexes)) × (held ≤ length (now lengths)) × (held ≤ 64) × (last < 64) ⌝ }
     requires { ⌜ (sumOf (take held (now lengths)) ≤ length (now cell)) × (sumOf (take held (now lengths)) ≤ length (now out)) × (sumOf (take held (now lengths)) ≤ bundleMax) ⌝ }
-    ensures { λ r. ⌜ Spec.Joined (Spec.joined false (last + 1) (take held (now (indexes .entry))) (take held (now (lengths .entry))) (now (cell .entry))) (now (out .entry)) r (now (out .exit)) ⌝ }
+    ensures { λ r. ⌜ Spec.Joined (Spec.joined order (last + 1) (take held (now (indexes .entry))) (take held (now (lengths .entry))) (now (cell .entry))) (now (out .entry)) r (now (out .exit)) ⌝ }
 {
     let mut starts = [ABSENT; 64];
     let mut sizes = [0u16; 64];
@@ -183,7 +201,7 @@ pub fn join<'a>(
     let mut at = 0;
     let mut i = 0u8;
     while i <= last {
-        let k = octets::octet_size(i);
+        let k = octets::octet_size(ordered(order, last, i));
         at = copy_piece(starts[k], sizes[k], cell, at, out);
         i += 1;
     }

@@ -17,6 +17,7 @@ use Rattle.wire.specs.Frame.{Item, row, scanned, items, messages, Sized}
 use Rattle.wire.proofs.Order.{Along, leads, from-start}
 use Rattle.wire.proofs.Places.{taken}
 use Rattle.window.specs.Window.{Window}
+use Rattle.pieces.specs.declared.Order.{Order}
 use Rattle.pieces.specs.Pieces.{bundleMax}
 use Rattle.rows.specs.Message.{Draft, Board, Handed, step, messagesFrom}
 use Rattle.rows.specs.Messages.{listed, boardAfter, handedBy, messagesIn}
@@ -48,22 +49,22 @@ unfolding notesWithin
 nothing-left D k [] = refl
 nothing-left D k (f ∷ fs) = refl
 
-module _ (w : ℕ) (falling : Bool) where
-  board-append : (b : Board) (xs ys : List Message) → boardAfter w falling b (xs ++ ys) ≡ boardAfter w falling (boardAfter w falling b xs) ys
+module _ (w : ℕ) (order : Order) where
+  board-append : (b : Board) (xs ys : List Message) → boardAfter w order b (xs ++ ys) ≡ boardAfter w order (boardAfter w order b xs) ys
   unfolding boardAfter
   board-append b [] ys = refl
-  board-append b (m ∷ xs) ys = board-append (step w falling b m .board) xs ys
+  board-append b (m ∷ xs) ys = board-append (step w order b m .board) xs ys
 
-  handed-append : (b : Board) (xs ys : List Message) → handedBy w falling b (xs ++ ys) ≡ handedBy w falling b xs ++ handedBy w falling (boardAfter w falling b xs) ys
+  handed-append : (b : Board) (xs ys : List Message) → handedBy w order b (xs ++ ys) ≡ handedBy w order b xs ++ handedBy w order (boardAfter w order b xs) ys
   unfolding boardAfter handedBy
   handed-append b [] ys = refl
   handed-append b (m ∷ xs) ys =
-      let b₁ : Board = step w falling b m .board in
-      ap (λ (l : List Handed). listed (step w falling b m .handed) ++ l) (handed-append b₁ xs ys)
-      ∙ sym (append-assoc (listed (step w falling b m .handed)) (handedBy w falling b₁ xs) (handedBy w falling (boardAfter w falling b₁ xs) ys))
+      let b₁ : Board = step w order b m .board in
+      ap (λ (l : List Handed). listed (step w order b m .handed) ++ l) (handed-append b₁ xs ys)
+      ∙ sym (append-assoc (listed (step w order b m .handed)) (handedBy w order b₁ xs) (handedBy w order (boardAfter w order b₁ xs) ys))
 
-module _ (w : ℕ) (win : Window w) (falling : Bool) (limits : Limits) (most : limits .bundles ≡ bundlesLimit) where
-  fee-handed : (b : Board) (m : Message) (h : Handed) → step w falling b m .handed ≡ some h → fee m ≡ 4
+module _ (w : ℕ) (win : Window w) (order : Order) (limits : Limits) (most : limits .bundles ≡ bundlesLimit) where
+  fee-handed : (b : Board) (m : Message) (h : Handed) → step w order b m .handed ≡ some h → fee m ≡ 4
   unfolding step fee
   fee-handed b skipped h e = absurd (let z : _≡_ {A = ℕ} 0 1 = cc in omega arith)
   fee-handed b (bundle c) h e = refl
@@ -97,15 +98,15 @@ module _ (w : ℕ) (win : Window w) (falling : Bool) (limits : Limits) (most : l
       rw (lt-ltb (r .progress .count) (limits .bundles) few, le-leb bundleMax (length (r .output) - r .progress .used) room) (and-true (ltb (r .progress .treated) (limits .messages)))
 
   paid-step : (r : Run) (p end : ℕ) (i : Item) → Paid r p end → p + payload (i .message) ≤ i .next → p + fee (i .message) ≤ i .next → i .next ≤ end
-      → (o : Option Handed) → step w falling (r .board) (i .message) .handed ≡ o → Paid (advanced r (step w falling (r .board) (i .message) .board) (i .next) o) (i .next) end
+      → (o : Option Handed) → step w order (r .board) (i .message) .handed ≡ o → Paid (advanced r (step w order (r .board) (i .message) .board) (i .next) o) (i .next) end
   unfolding advanced progressed octetsOf
   paid-step r p end i P pay fees le none h =
-      let W = rw h at (step-weight w win falling (r .board) (i .message) (P .ready)) in
-      record { ready = step-ready w win falling (r .board) (i .message) (P .ready); size = P .size; octets = omega (arith, P .octets, W); bundles = omega (arith, P .bundles); below = le }
+      let W = rw h at (step-weight w win order (r .board) (i .message) (P .ready)) in
+      record { ready = step-ready w win order (r .board) (i .message) (P .ready); size = P .size; octets = omega (arith, P .octets, W); bundles = omega (arith, P .bundles); below = le }
   paid-step r p end i P pay fees le (some x) h =
-      let W = rw h at (step-weight w win falling (r .board) (i .message) (P .ready)) in
+      let W = rw h at (step-weight w win order (r .board) (i .message) (P .ready)) in
       record {
-        ready = step-ready w win falling (r .board) (i .message) (P .ready);
+        ready = step-ready w win order (r .board) (i .message) (P .ready);
         size = length-put (r .output) (r .progress .used) (x .octets) (omega (arith, P .octets, P .size, W)) ∙ P .size;
         octets = omega (arith, P .octets, W);
         bundles = omega (arith, P .bundles, fee-handed (r .board) (i .message) x h);
@@ -120,19 +121,19 @@ module _ (w : ℕ) (win : Window w) (falling : Bool) (limits : Limits) (most : l
 
   -- a run that has treated messages
   pub record Treats (r after : Run) (ms : List Message) : Type 0 where
-    pub board : after .board ≡ boardAfter w falling (r .board) ms
-    pub adds : Adds r after (handedBy w falling (r .board) ms)
+    pub board : after .board ≡ boardAfter w order (r .board) ms
+    pub adds : Adds r after (handedBy w order (r .board) ms)
     pub treated : after .progress .treated ≡ r .progress .treated + length ms
 
   treats-none : (r : Run) → Treats r r []
   unfolding boardAfter handedBy
   treats-none r = record { board = refl; adds = adds-none r; treated = omega arith }
 
-  treats-more : (r after : Run) (m : Message) (next : ℕ) (ms : List Message) (o : Option Handed) → step w falling (r .board) m .handed ≡ o
-      → Treats (advanced r (step w falling (r .board) m .board) next o) after ms → Treats r after (m ∷ ms)
+  treats-more : (r after : Run) (m : Message) (next : ℕ) (ms : List Message) (o : Option Handed) → step w order (r .board) m .handed ≡ o
+      → Treats (advanced r (step w order (r .board) m .board) next o) after ms → Treats r after (m ∷ ms)
   unfolding boardAfter handedBy listed advanced progressed
-  treats-more r after m next ms none h T = record { board = T .board; adds = rw h (adds-silent r after (step w falling (r .board) m .board) next _ (T .adds)); treated = omega (arith, T .treated) }
-  treats-more r after m next ms (some x) h T = record { board = T .board; adds = rw h (adds-bundle r after (step w falling (r .board) m .board) next x _ (T .adds)); treated = omega (arith, T .treated) }
+  treats-more r after m next ms none h T = record { board = T .board; adds = rw h (adds-silent r after (step w order (r .board) m .board) next _ (T .adds)); treated = omega (arith, T .treated) }
+  treats-more r after m next ms (some x) h T = record { board = T .board; adds = rw h (adds-bundle r after (step w order (r .board) m .board) next x _ (T .adds)); treated = omega (arith, T .treated) }
 
   record Goes (r after : Run) (e end : ℕ) (is : List Item) : Type 0 where
     treats : Treats r after (take (left r) (messagesIn is))
@@ -150,24 +151,24 @@ module _ (w : ℕ) (win : Window w) (falling : Bool) (limits : Limits) (most : l
       let z : left r ≡ 0 = omega (arith, ltb-false (r .progress .treated) (limits .messages) t) in
       record { treats = rw z (treats-none r); fate = part (omega (arith, z)) (omega (arith, n, l .1 .0, pays-within (i .next) e is (l .2))); bounded = paid-bounded r p end P }
 
-  one-more : (i : Item) (is : List Item) (r after : Run) (e end : ℕ) (o : Option Handed) → ltb (r .progress .treated) (limits .messages) ≡ true → step w falling (r .board) (i .message) .handed ≡ o
-      → Goes (advanced r (step w falling (r .board) (i .message) .board) (i .next) o) after e end is → Goes r after e end (i ∷ is)
+  one-more : (i : Item) (is : List Item) (r after : Run) (e end : ℕ) (o : Option Handed) → ltb (r .progress .treated) (limits .messages) ≡ true → step w order (r .board) (i .message) .handed ≡ o
+      → Goes (advanced r (step w order (r .board) (i .message) .board) (i .next) o) after e end is → Goes r after e end (i ∷ is)
   one-more i is r after e end o t h G =
-      let r₁ : Run = advanced r (step w falling (r .board) (i .message) .board) (i .next) o in
-      let z : left r ≡ suc (left r₁) = omega (arith, ltb-true (r .progress .treated) (limits .messages) t, advanced-next r (step w falling (r .board) (i .message) .board) (i .next) o .1) in
+      let r₁ : Run = advanced r (step w order (r .board) (i .message) .board) (i .next) o in
+      let z : left r ≡ suc (left r₁) = omega (arith, ltb-true (r .progress .treated) (limits .messages) t, advanced-next r (step w order (r .board) (i .message) .board) (i .next) o .1) in
       record { treats = rw z (treats-more r after (i .message) (i .next) _ o h (G .treats)); fate = onward z (G .fate); bounded = G .bounded }
     where
-      onward : left r ≡ suc (left (advanced r (step w falling (r .board) (i .message) .board) (i .next) o))
-          → Fate (advanced r (step w falling (r .board) (i .message) .board) (i .next) o) after e end is → Fate r after e end (i ∷ is)
+      onward : left r ≡ suc (left (advanced r (step w order (r .board) (i .message) .board) (i .next) o))
+          → Fate (advanced r (step w order (r .board) (i .message) .board) (i .next) o) after e end is → Fate r after e end (i ∷ is)
       onward z (whole le n P) = whole (omega arith) n P
       onward z (part lt n) = part (omega arith) n
 
-  goes : (is : List Item) (r : Run) (p e end : ℕ) → r .progress .next ≡ p → Paid r p end → Pays p is e → e ≤ end → Goes r (run w falling limits r is) e end is
+  goes : (is : List Item) (r : Run) (p e end : ℕ) → r .progress .next ≡ p → Paid r p end → Pays p is e → e ≤ end → Goes r (run w order limits r is) e end is
   unfolding run Along
   goes [] r p e end n P l le = record { treats = rw (take-nil {A = Message} (left r)) (treats-none r); fate = whole (omega arith) (n ∙ l) (rw l at P); bounded = paid-bounded r p end P }
   goes (i ∷ is) r p e end n P l le =
-      let o : Option Handed = step w falling (r .board) (i .message) .handed in
-      let b₁ : Board = step w falling (r .board) (i .message) .board in
+      let o : Option Handed = step w order (r .board) (i .message) .handed in
+      let b₁ : Board = step w order (r .board) (i .message) .board in
       rw (paid-roomy r p end P)
       (cond-elim (λ (x : Run). Goes r x e end (i ∷ is)) (ltb (r .progress .treated) (limits .messages))
       (λ t. one-more i is r _ e end o t refl (goes is (advanced r b₁ (i .next) o) (i .next) e end (advanced-next r b₁ (i .next) o .0)
@@ -178,11 +179,11 @@ module _ (w : ℕ) (win : Window w) (falling : Bool) (limits : Limits) (most : l
 
   treats-behind : (r mid after : Run) (xs ys : List Message) → Treats r mid xs → Treats mid after ys → Treats r after (xs ++ ys)
   treats-behind r mid after xs ys A B =
-      let hs : handedBy w falling (r .board) (xs ++ ys) ≡ handedBy w falling (r .board) xs ++ handedBy w falling (mid .board) ys =
-      handed-append w falling (r .board) xs ys ∙ ap (λ (b : Board). handedBy w falling (r .board) xs ++ handedBy w falling b ys) (sym (A .board)) in
+      let hs : handedBy w order (r .board) (xs ++ ys) ≡ handedBy w order (r .board) xs ++ handedBy w order (mid .board) ys =
+      handed-append w order (r .board) xs ys ∙ ap (λ (b : Board). handedBy w order (r .board) xs ++ handedBy w order b ys) (sym (A .board)) in
       record {
-        board = B .board ∙ ap (λ (b : Board). boardAfter w falling b ys) (A .board) ∙ sym (board-append w falling (r .board) xs ys);
-        adds = rw hs (adds-behind r mid after (handedBy w falling (r .board) xs) (handedBy w falling (mid .board) ys) (A .adds) (B .adds));
+        board = B .board ∙ ap (λ (b : Board). boardAfter w order b ys) (A .board) ∙ sym (board-append w order (r .board) xs ys);
+        adds = rw hs (adds-behind r mid after (handedBy w order (r .board) xs) (handedBy w order (mid .board) ys) (A .adds) (B .adds));
         treated = omega (arith, A .treated, B .treated, length-append xs ys);
       }
 
@@ -198,7 +199,7 @@ module _ (w : ℕ) (win : Window w) (falling : Bool) (limits : Limits) (most : l
 
   module _ (read : List ℕ → Read) (M : (xs : List ℕ) → Sized (length xs) (read xs)) (C : (xs : List ℕ) → Priced (read xs)) where
     abbrev D : Draft
-    D = record { read = read; falling = falling }
+    D = record { read = read; order = order }
 
     -- a run over frames plays them
     pub record Plays (r after : Reach) (fs : List (List ℕ)) : Type 0 where
@@ -249,12 +250,12 @@ module _ (w : ℕ) (win : Window w) (falling : Bool) (limits : Limits) (most : l
         -- a frame of messages
         row-turn : (all : List Item) → scanned read f ≡ row all → unfit D f 0 ≡ none → r .run .progress .next ≡ 0 → Paid (r .run) 0 (length f + octetsIn fs)
             → ((r₁ : Reach) → r₁ .run .progress .next ≡ 0 → Paid (r₁ .run) 0 (octetsIn fs) → Plays r₁ (through D w limits r₁ fs) fs)
-            → (t : Run) → t ≡ run w falling limits (r .run) all → Plays r (treatedAs t) (f ∷ fs)
+            → (t : Run) → t ≡ run w order limits (r .run) all → Plays r (treatedAs t) (f ∷ fs)
         unfolding messages items
         row-turn all whole₁ e n P later t same = rw same (go (G .fate))
           where
             mid : Run
-            mid = run w falling limits (r .run) all
+            mid = run w order limits (r .run) all
 
             G : Goes (r .run) mid (length f) (length f + octetsIn fs) all
             G = goes all (r .run) 0 (length f) (length f + octetsIn fs) n P (pays read M C f all whole₁) (omega arith)
@@ -282,7 +283,7 @@ module _ (w : ℕ) (win : Window w) (falling : Bool) (limits : Limits) (most : l
         -- a frame, and the frames behind it
         turn : r .run .progress .next ≡ 0 → Paid (r .run) 0 (length f + octetsIn fs) → ((r₁ : Reach) → r₁ .run .progress .next ≡ 0 → Paid (r₁ .run) 0 (octetsIn fs) → Plays r₁ (through D w limits r₁ fs) fs)
             → (q : Option Refusal) → unfit D f (r .run .progress .next) ≡ q
-            → Plays r (cond (ltb 0 (numberOf q)) (through D w limits (noted r (numberOf q)) fs) (treatedAs (run w falling limits (r .run) (messagesFrom D f (r .run .progress .next))))) (f ∷ fs)
+            → Plays r (cond (ltb 0 (numberOf q)) (through D w limits (noted r (numberOf q)) fs) (treatedAs (run w order limits (r .run) (messagesFrom D f (r .run .progress .next))))) (f ∷ fs)
         turn n P later (some q) e =
             let e₀ : unfit D f 0 ≡ some q = ap (λ (at : ℕ). unfit D f at) (sym n) ∙ e in
             let P₁ : Paid (fronted (r .run)) 0 (octetsIn fs) = record { ready = P .ready; size = P .size; octets = omega (arith, P .octets); bundles = omega (arith, P .bundles); below = omega arith } in
@@ -290,7 +291,7 @@ module _ (w : ℕ) (win : Window w) (falling : Bool) (limits : Limits) (most : l
         turn n P later none e =
             let e₀ : unfit D f 0 ≡ none = ap (λ (at : ℕ). unfit D f at) (sym n) ∙ e in
             let a = taken read M f 0 (fit D f 0 e₀ .accepted) in
-            row-turn (a .items) (a .whole) e₀ n P later _ (ap (λ (at : ℕ). run w falling limits (r .run) (messagesFrom D f at)) n ∙ ap (run w falling limits (r .run)) (begins (a .items) (a .whole)))
+            row-turn (a .items) (a .whole) e₀ n P later _ (ap (λ (at : ℕ). run w order limits (r .run) (messagesFrom D f at)) n ∙ ap (run w order limits (r .run)) (begins (a .items) (a .whole)))
 
     -- the loop over frames plays them, from any progress at a frame's front
     pub plays : (fs : List (List ℕ)) (r : Reach) → r .run .progress .next ≡ 0 → Paid (r .run) 0 (octetsIn fs) → Plays r (through D w limits r fs) fs

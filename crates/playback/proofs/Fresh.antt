@@ -8,16 +8,18 @@ use native.Mathlib.Nat.{zero-add, sub-zero}
 use native.Mathlib.Omega.{arith}
 use lib.ListN.{length, take, replicate, length-map}
 use lib.Dec.{eqb}
+use Rattle.wire.specs.declared.Version.the-variants.{Draft02}
 use Rattle.octets.specs.Octets.{put}
 use Rattle.octets.proofs.Flags.{cond-elim}
 use Rattle.octets.proofs.Put.{read-back}
 use Rattle.wire.proofs.Spans.{sized}
 use Rattle.window.specs.Window.{sixteen, windowSize}
+use Rattle.pieces.specs.declared.Order.the-variants.{Rising}
 use Rattle.row.specs.declared.Phase.the-variants.{Free}
 use Rattle.row.specs.Row.{emptyRow}
 use Rattle.reassembly.proofs.Kept.{empty-weight}
 use Rattle.rows.specs.State.{fresh}
-use Rattle.rows.specs.Message.{Draft, draft02, Board, Handed}
+use Rattle.rows.specs.Message.{Draft, draft, Board, Handed}
 use Rattle.rows.specs.Messages.{joinedOctets}
 use Rattle.messages.specs.declared.Limits.{Limits}
 use Rattle.messages.specs.Run.{going, begun}
@@ -63,29 +65,29 @@ left a =
 
 module _ (sizes joined : List ℕ) (limit : ℕ) (pool : List ℕ) (r : Results) (numbers : List ℕ) (E : Enough sizes joined pool r) (room : length (r .output) ≡ bufferSize) where
   abbrev board : Board
-  board = record { state = fresh windowSize; pool = pool }
+  board = record { state = fresh Draft02 windowSize; pool = pool }
 
   abbrev fs : List (List ℕ)
   fs = framesOf sizes joined
 
   abbrev start : Reach
-  start = setOut (going (fresh windowSize) pool (r .output) (r .lengths) numbers (begun 0)) (r .places) (r .reasons) 0
+  start = setOut (going (fresh Draft02 windowSize) pool (r .output) (r .lengths) numbers (begun 0)) (r .places) (r .reasons) 0
 
   abbrev after : Reach
-  after = through draft02 windowSize (playLimits limit) start fs
+  after = through (draft Draft02) windowSize (playLimits limit) start fs
 
-  at-first : Paid windowSize sixteen false (playLimits limit) refl (start .run) 0 (octetsIn fs)
+  at-first : Paid windowSize sixteen Rising (playLimits limit) refl (start .run) 0 (octetsIn fs)
   unfolding fresh
   at-first = record {
-    ready = fresh-ready windowSize sixteen pool (E .pooled);
+    ready = fresh-ready windowSize sixteen Draft02 pool (E .pooled);
     size = room;
     octets = omega (arith, held-fresh windowSize, frames-fit sizes joined, E .small);
     bundles = omega (arith, frames-fit sizes joined, E .small);
     below = omega arith;
   }
 
-  P : Plays windowSize sixteen false (playLimits limit) refl Layout.read sized priced-read start after fs
-  P = plays windowSize sixteen false (playLimits limit) refl Layout.read sized priced-read fs start refl at-first
+  P : Plays windowSize sixteen Rising (playLimits limit) refl (Layout.read Draft02) (sized Draft02) (priced-read Draft02) start after fs
+  P = plays windowSize sixteen Rising (playLimits limit) refl (Layout.read Draft02) (sized Draft02) (priced-read Draft02) fs start refl at-first
 
   abbrev p : Playback
   p = playedFresh limit pool fs
@@ -99,7 +101,7 @@ module _ (sizes joined : List ℕ) (limit : ℕ) (pool : List ℕ) (r : Results)
       let hs : List Handed = p .bundles in
       let ns : List Note = p .notes in
       let few : length hs ≤ bundlesMax = omega (arith, T .adds .count, P .bounded .1) in
-      let none-more : length ns ≤ framesMax = omega (arith, few-notes draft02 limit 0 fs, frames-many sizes joined, E .few) in
+      let none-more : length ns ≤ framesMax = omega (arith, few-notes (draft Draft02) limit 0 fs, frames-many sizes joined, E .few) in
       let treated : after .run .progress .treated ≡ length (p .messages) = T .treated ∙ zero-add (length (p .messages)) in
       let count : after .run .progress .count ≡ length hs = T .adds .count ∙ zero-add (length hs) in
       let used : after .run .progress .used ≡ length (joinedOctets hs) = T .adds .used ∙ zero-add (length (joinedOctets hs)) in

@@ -7,10 +7,11 @@ use Prim.Native.Nat.{ℕ, _*_, _≤_}
 use native.Mathlib.Omega.{arith}
 use lib.ListN.{length, take, length-take}
 use lib.Dec.{ltb, eqb}
+use Rattle.wire.specs.declared.Version.the-variants.{Draft02}
 use Rattle.octets.proofs.Cases.{first, numbered, first-some, first-none}
 use Rattle.window.specs.Window.{windowSize}
 use Rattle.pieces.specs.Pieces.{bundleMax}
-use Rattle.rows.specs.Message.{draft02}
+use Rattle.rows.specs.Message.{draft}
 use Rattle.recording.specs.Recording as Recording
 use Rattle.recording.specs.Recording.{Read, refused, good, read, framesMax, octetsMax}
 use Rattle.recording.proofs.Refusals.{number-some, readNumber, readCases, read-in-order}
@@ -86,7 +87,7 @@ within-limit recording limit pool r messages bundles octets frames = go (read re
     lent (some f) t e a = absurd (let b = rw e at a in let z : _≡_ {A = ℕ} 0 1 = cc in omega arith)
     lent none t e a =
         let b = rw e at a in
-        let all = allMessages draft02 (framesOf (t .lengths) (t .octets)) in
+        let all = allMessages (draft Draft02) (framesOf (t .lengths) (t .octets)) in
         let n : length (take limit all) ≡ messages = cc in
         omega (arith, length-take limit all)
 

@@ -6,11 +6,12 @@ use mathlib.Core.Path.{_≡_}
 use Prim.Native.Nat.{ℕ, _*_, _≤_}
 use lib.ListN.{length}
 use lib.Dec.{eqb, ltb}
+use Rattle.wire.specs.declared.Version.the-variants.{Draft02}
 use Rattle.octets.specs.Octets.{sumOf, put}
 use Rattle.window.specs.Window.{windowSize}
 use Rattle.pieces.specs.Pieces.{bundleMax}
 use Rattle.rows.specs.State.{fresh}
-use Rattle.rows.specs.Message.{draft02, Handed}
+use Rattle.rows.specs.Message.{draft, Handed}
 use Rattle.rows.specs.Messages.{joinedOctets}
 use Rattle.recording.specs.Recording as Reader
 use Rattle.recording.specs.Recording.{Recording, Read, refused, good, read, framesMax, octetsMax}
@@ -65,9 +66,9 @@ reply answer pool r = record { answer = answer; pool = pool; results = r }
 abbrev pub answered : Playback → Results → Reply
 answered p r = reply (Played (length (p .messages)) (length (p .bundles)) (length (joinedOctets (p .bundles))) (length (p .notes))) (p .board .pool) (resulting p r)
 
--- "playback on a fresh receiver", of window 16
+-- "playback on a fresh receiver", of draft 02 ("recordings are draft 02", E5) and window 16
 abbrev pub playedFresh : ℕ → List ℕ → List (List ℕ) → Playback
-playedFresh limit pool fs = played draft02 windowSize limit (record { state = fresh windowSize; pool = pool }) fs
+playedFresh limit pool fs = played (draft Draft02) windowSize limit (record { state = fresh Draft02 windowSize; pool = pool }) fs
 
 -- "fewer are 24; first the reader's numbers, then 2 for the pool"
 unfoldable pub unlent : List ℕ → Results → Option Refusal

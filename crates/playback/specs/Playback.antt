@@ -49,4 +49,4 @@ module _ (D : Draft) where
   unfoldable pub played : ℕ → ℕ → Board → List (List ℕ) → Playback
   played w limit b fs =
       let ms : List Message = take limit (allMessages fs) in
-      record { messages = ms; bundles = handedBy w (D .falling) b ms; notes = notesWithin limit 0 fs; board = boardAfter w (D .falling) b ms }
+      record { messages = ms; bundles = handedBy w (D .order) b ms; notes = notesWithin limit 0 fs; board = boardAfter w (D .order) b ms }

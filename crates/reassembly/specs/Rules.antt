@@ -6,6 +6,7 @@ use mathlib.Core.List.{List}
 use Prim.Native.Nat.{ℕ, _+_}
 use lib.ListN.{length, set}
 use Rattle.octets.specs.Octets.{put}
+use Rattle.pieces.specs.declared.Order.{Order}
 use Rattle.pieces.specs.Pieces.{hasAll, joined}
 use Rattle.row.specs.declared.Row.{Row}
 use Rattle.row.specs.declared.Verdict.{Verdict}
@@ -41,8 +42,8 @@ withPiece r ending i n =
 unfoldable pub complete : Row → Bool
 complete r = r .known && hasAll (r .last + 1) (indexesOf r)
 
-unfoldable pub bundleOf : Bool → Row → List ℕ → List ℕ
-bundleOf falling r cell = joined falling (r .last + 1) (indexesOf r) (lengthsOf r) cell
+unfoldable pub bundleOf : Order → Row → List ℕ → List ℕ
+bundleOf order r cell = joined order (r .last + 1) (indexesOf r) (lengthsOf r) cell
 
 -- what a message leaves of a row and its cell, and the bundle that it hands out
 pub record Outcome : Type 0 where
@@ -54,17 +55,17 @@ abbrev pub silent : Row → List ℕ → Outcome
 silent r cell = record { row = r; cell = cell; bundle = none }
 
 -- a complete row hands out its bundle and is done
-unfoldable pub settle : Bool → Row → List ℕ → Outcome
-settle falling r cell = record { row = cond (complete r) (emptyRow Done) r; cell = cell; bundle = cond (complete r) (some (bundleOf falling r cell)) none }
+unfoldable pub settle : Order → Row → List ℕ → Outcome
+settle order r cell = record { row = cond (complete r) (emptyRow Done) r; cell = cell; bundle = cond (complete r) (some (bundleOf order r cell)) none }
 
-unfoldable pub carryOut : Bool → Verdict → Bool → ℕ → List ℕ → Row → List ℕ → Outcome
-carryOut falling Stays ending i d r cell = silent r cell
-carryOut falling Abandons ending i d r cell = silent (emptyRow Abandoned) cell
-carryOut falling (Accepts at) ending i d r cell = settle falling (withPiece r ending i (length d)) (put cell at d)
+unfoldable pub carryOut : Order → Verdict → Bool → ℕ → List ℕ → Row → List ℕ → Outcome
+carryOut order Stays ending i d r cell = silent r cell
+carryOut order Abandons ending i d r cell = silent (emptyRow Abandoned) cell
+carryOut order (Accepts at) ending i d r cell = settle order (withPiece r ending i (length d)) (put cell at d)
 
 -- a segment (ending false) or an end (ending true) with index i and data d
-unfoldable pub pieceStep : Bool → Bool → ℕ → List ℕ → Row → List ℕ → Outcome
-pieceStep falling ending i d r cell = carryOut falling (judge r ending i (length d)) ending i d r cell
+unfoldable pub pieceStep : Order → Bool → ℕ → List ℕ → Row → List ℕ → Outcome
+pieceStep order ending i d r cell = carryOut order (judge r ending i (length d)) ending i d r cell
 
 unfoldable pub cancelStep : Row → List ℕ → Outcome
 cancelStep r cell = silent (cancelled r) cell

@@ -1,9 +1,10 @@
 // What a cancel, a segment or an end does to a row and its cell, and the bundle that it completes.
+use pieces::Order;
 use row::Phase;
 use row::Row;
 use row::Verdict;
 ghost use mathlib.Core.Path.{_≡_};
-ghost use mathlib.Core.Bool.{true, false};
+ghost use mathlib.Core.Bool.{true};
 ghost use Prim.Native.Nat.{_+_, _≤_, _<_};
 ghost use lib.ListN.{length};
 ghost use Rattle.octets.specs.Octets.{put, sumOf};
@@ -47,6 +48,7 @@ fn last_after(last: u8, index: u8, ending: bool) -> u8
 // The row and the cell with one piece more, whose octets lie from `at` on. Where that completes the row, its bundle goes to the front
 // of `out`, and the row is done.
 fn accept(
+    order: Order,
     row: Row,
     cell: &mut [u8],
     at: usize,
@@ -57,7 +59,7 @@ fn accept(
 ) -> Taken
     requires { ⌜ (row .held < 64) × (at + length (now payload) ≤ bundleMax) × (length (now cell) ≡ bundleMax) × (bundleMax ≤ length (now out)) ⌝ }
     requires { ⌜ (Spec.lastAfter (row .last) index ending < 64) × (sumOf (lengthsOf (Spec.withPiece row ending index (length (now payload)))) ≤ bundleMax) ⌝ }
-    ensures { λ r. ⌜ Spec.Answers (Spec.settle false (Spec.withPiece row ending index (length (now (payload .entry)))) (put (now (cell .entry)) at (now (payload .entry)))) (now (out .entry)) r (now (cell .exit)) (now (out .exit)) ⌝ }
+    ensures { λ r. ⌜ Spec.Answers (Spec.settle order (Spec.withPiece row ending index (length (now (payload .entry)))) (put (now (cell .entry)) at (now (payload .entry)))) (now (out .entry)) r (now (cell .exit)) (now (out .exit)) ⌝ }
 {
     let held = row.held;
     let n = payload.len();
@@ -69,7 +71,7 @@ fn accept(
     let known = row.known | ending;
     let last = last_after(row.last, index, ending);
     if pieces::is_complete(known, last, &indexes[..], held + 1) {
-        let size = pieces::join(&indexes[..], &lengths[..], held + 1, last, cell, out);
+        let size = pieces::join(order, &indexes[..], &lengths[..], held + 1, last, cell, out);
         return Taken {
             delivery: Delivery::Bundle(size),
             row: row::empty_row(Phase::Done),
@@ -88,8 +90,9 @@ fn accept(
     }
 }
 
-// A segment or an end with this index and this payload.
+// A segment or an end with this index and this payload; a complete row's pieces are joined in the order.
 pub fn take_piece(
+    order: Order,
     row: Row,
     cell: &mut [u8],
     index: u32,
@@ -98,7 +101,7 @@ pub fn take_piece(
     out: &mut [u8],
 ) -> Taken
     requires { ⌜ (soundRow row ≡ true) × (length (now cell) ≡ bundleMax) × (bundleMax ≤ length (now out)) ⌝ }
-    ensures { λ r. ⌜ Spec.Answers (Spec.pieceStep false ending index (now (payload .entry)) row (now (cell .entry))) (now (out .entry)) r (now (cell .exit)) (now (out .exit)) ⌝ }
+    ensures { λ r. ⌜ Spec.Answers (Spec.pieceStep order ending index (now (payload .entry)) row (now (cell .entry))) (now (out .entry)) r (now (cell .exit)) (now (out .exit)) ⌝ }
 {
     let v = row::judge(row, index, payload.len(), ending);
     match v {
@@ -110,6 +113,6 @@ pub fn take_piece(
             delivery: Delivery::Nothing,
             row: row::empty_row(Phase::Abandoned),
         },
-        Verdict::Accepts(at) => { accept(row, cell, at, index as u8, payload, ending, out) }
+        Verdict::Accepts(at) => { accept(order, row, cell, at, index as u8, payload, ending, out) }
     }
 }

@@ -16,20 +16,22 @@ use Rattle.wire.specs.declared.Checked.{Checked}
 use Rattle.wire.specs.declared.Checked.the-variants as Frame
 use Rattle.wire.specs.declared.Fault.{Fault}
 use Rattle.wire.specs.Frame.{Item, items, scanned, checked, frameMax}
+use Rattle.wire.specs.declared.Version.{Version}
 use Rattle.wire.proofs.Bounds.{bad-within, Low, LowRead, LowItems, read-low, low-items, low-from}
 use Rattle.window.specs.declared.Standing.{Standing}
 use Rattle.window.specs.declared.Standing.the-variants.{Inside, New, Outside}
+use Rattle.pieces.specs.declared.Order.{Order}
 use Rattle.row.specs.declared.Row.{Row}
 use Rattle.reassembly.specs.Rules as Rules
 use Rattle.pieces.specs.Pieces.{bundleMax}
 use Rattle.rows.specs.State.{sound}
 use Rattle.rows.specs.declared.Origin.{Origin}
 use Rattle.rows.specs.declared.Origin.the-variants.{Whole, Transfer}
-use Rattle.rows.specs.Message.{Draft, draft02, messagesFrom, Board, Handed, Outcome, handedOf, moved, inRow, treatTransfer, step}
+use Rattle.rows.specs.Message.{Draft, draft, messagesFrom, Board, Handed, Outcome, handedOf, moved, inRow, treatTransfer, step}
 use Rattle.receiver.specs.declared.Answer.{Answer}
 use Rattle.receiver.specs.declared.Answer.the-variants.{Delivered, Finished, Refused}
 use Rattle.receiver.specs.declared.Refusal.{Refusal}
-use Rattle.receiver.specs.Receive.{refusalPlace, named, Reply, frameRefusal, unfit, replied, delivered, refusal, treat, receive}
+use Rattle.receiver.specs.Receive.{refusalPlace, named, Reply, frameRefusal, unfit, replied, delivered, refusal, treat, receiveAs}
 use Rattle.receiver.proofs.Calls.{treat-answers}
 
 -- ---- the place that a refusal names
@@ -63,12 +65,12 @@ module _ (D : Draft) where
       λ _. cond-elim Within (not (eqb (length (b .pool)) (w * bundleMax)) || ltb (length output) bundleMax) (λ _. omega arith)
       λ _. unfit-within frame place
 
-  pub refused-for : (w : ℕ) (b : Board) (frame : List ℕ) (place : ℕ) (output : List ℕ) (q : Refusal) → receive D w b frame place output .answer ≡ Refused q → refusal D w b frame place output ≡ some q
-  unfolding receive
+  pub refused-for : (w : ℕ) (b : Board) (frame : List ℕ) (place : ℕ) (output : List ℕ) (q : Refusal) → receiveAs D w b frame place output .answer ≡ Refused q → refusal D w b frame place output ≡ some q
+  unfolding receiveAs
   refused-for w b frame place output q e =
       refusal-of (refusal D w b frame place output) b output (treat D w b (messagesFrom D frame place) output) q e (treat-answers D w b (messagesFrom D frame place) output q)
 
-  pub place-within : (w : ℕ) (b : Board) (frame : List ℕ) (place : ℕ) (output : List ℕ) (q : Refusal) → receive D w b frame place output .answer ≡ Refused q → named (refusalPlace q) < frameMax
+  pub place-within : (w : ℕ) (b : Board) (frame : List ℕ) (place : ℕ) (output : List ℕ) (q : Refusal) → receiveAs D w b frame place output .answer ≡ Refused q → named (refusalPlace q) < frameMax
   place-within w b frame place output q e = rw (refused-for w b frame place output q e) at (refusal-within w b frame place output)
 
 -- ---- the greatest number
@@ -81,13 +83,13 @@ module _ (w : ℕ) where
   transfer-low (New d) rule b t g l = l
   transfer-low Outside rule b t g l = g
 
-  pub step-low : (falling : Bool) (b : Board) (m : Message) → b .state .greatest < 2 ^ 32 → Low m → step w falling b m .board .state .greatest < 2 ^ 32
+  pub step-low : (order : Order) (b : Board) (m : Message) → b .state .greatest < 2 ^ 32 → Low m → step w order b m .board .state .greatest < 2 ^ 32
   unfolding step Low
-  step-low falling b skipped g l = g
-  step-low falling b (bundle c) g l = g
-  step-low falling b (segment t i d) g l = transfer-low _ _ b t g l
-  step-low falling b (last t i d) g l = transfer-low _ _ b t g l
-  step-low falling b (cancel t) g l = transfer-low _ _ b t g l
+  step-low order b skipped g l = g
+  step-low order b (bundle c) g l = g
+  step-low order b (segment t i d) g l = transfer-low _ _ b t g l
+  step-low order b (last t i d) g l = transfer-low _ _ b t g l
+  step-low order b (cancel t) g l = transfer-low _ _ b t g l
 
   delivered-low : (o : Option Handed) (b : Board) (next : ℕ) (output : List ℕ) (later : Reply) → b .state .greatest < 2 ^ 32 → later .board .state .greatest < 2 ^ 32
       → delivered o b next output later .board .state .greatest < 2 ^ 32
@@ -100,21 +102,21 @@ module _ (w : ℕ) where
     unfolding treat LowItems
     treat-low b [] output g l = g
     treat-low b (i ∷ is) output g l =
-        let o : Outcome = step w (D .falling) b (i .message) in
-        let h = step-low (D .falling) b (i .message) g (l .0) in
+        let o : Outcome = step w (D .order) b (i .message) in
+        let h = step-low (D .order) b (i .message) g (l .0) in
         delivered-low (o .handed) (o .board) (i .next) output (treat D w (o .board) is output) h (treat-low (o .board) is output h (l .1))
 
     pub receive-low : ((xs : List ℕ) → Octets xs → LowRead (D .read xs)) → (b : Board) (frame : List ℕ) (place : ℕ) (output : List ℕ) → Octets frame → b .state .greatest < 2 ^ 32
-        → receive D w b frame place output .board .state .greatest < 2 ^ 32
-    unfolding receive replied messagesFrom
+        → receiveAs D w b frame place output .board .state .greatest < 2 ^ 32
+    unfolding receiveAs replied messagesFrom
     receive-low low-read b frame place output low g = go (refusal D w b frame place output)
       where
         go : (r : Option Refusal) → replied r b output (treat D w b (messagesFrom D frame place) output) .board .state .greatest < 2 ^ 32
         go none = treat-low b (messagesFrom D frame place) output g (low-from place (items (scanned (D .read) frame)) (low-items (D .read) low-read frame low))
         go (some q) = g
 
-  pub draft02-low : (b : Board) (frame : List ℕ) (place : ℕ) (output : List ℕ) → Octets frame → b .state .greatest < 2 ^ 32 → receive draft02 w b frame place output .board .state .greatest < 2 ^ 32
-  draft02-low = receive-low draft02 read-low
+  pub draft-low : (v : Version) (b : Board) (frame : List ℕ) (place : ℕ) (output : List ℕ) → Octets frame → b .state .greatest < 2 ^ 32 → receiveAs (draft v) w b frame place output .board .state .greatest < 2 ^ 32
+  draft-low v = receive-low (draft v) (read-low v)
 
 -- ---- the number that a bundle is answered with
 
@@ -143,13 +145,13 @@ module _ (w : ℕ) where
   transfer-hands (New d) rule b t l = low-handed t l _
   transfer-hands Outside rule b t l = tt
 
-  step-hands : (falling : Bool) (b : Board) (m : Message) → Low m → LowHanded (step w falling b m .handed)
+  step-hands : (order : Order) (b : Board) (m : Message) → Low m → LowHanded (step w order b m .handed)
   unfolding step Low handedOf
-  step-hands falling b skipped l = tt
-  step-hands falling b (bundle c) l = tt
-  step-hands falling b (segment t i d) l = transfer-hands _ _ b t l
-  step-hands falling b (last t i d) l = transfer-hands _ _ b t l
-  step-hands falling b (cancel t) l = transfer-hands _ _ b t l
+  step-hands order b skipped l = tt
+  step-hands order b (bundle c) l = tt
+  step-hands order b (segment t i d) l = transfer-hands _ _ b t l
+  step-hands order b (last t i d) l = transfer-hands _ _ b t l
+  step-hands order b (cancel t) l = transfer-hands _ _ b t l
 
   delivered-hands : (o : Option Handed) (b : Board) (next : ℕ) (output : List ℕ) (later : Reply) → LowHanded o → LowAnswer (later .answer) → LowAnswer (delivered o b next output later .answer)
   unfolding delivered
@@ -161,12 +163,12 @@ module _ (w : ℕ) where
     unfolding treat LowItems
     treat-hands b [] output l = tt
     treat-hands b (i ∷ is) output l =
-        let o : Outcome = step w (D .falling) b (i .message) in
-        delivered-hands (o .handed) (o .board) (i .next) output (treat D w (o .board) is output) (step-hands (D .falling) b (i .message) (l .0)) (treat-hands (o .board) is output (l .1))
+        let o : Outcome = step w (D .order) b (i .message) in
+        delivered-hands (o .handed) (o .board) (i .next) output (treat D w (o .board) is output) (step-hands (D .order) b (i .message) (l .0)) (treat-hands (o .board) is output (l .1))
 
     pub receive-hands : ((xs : List ℕ) → Octets xs → LowRead (D .read xs)) → (b : Board) (frame : List ℕ) (place : ℕ) (output : List ℕ) → Octets frame
-        → LowAnswer (receive D w b frame place output .answer)
-    unfolding receive replied messagesFrom
+        → LowAnswer (receiveAs D w b frame place output .answer)
+    unfolding receiveAs replied messagesFrom
     receive-hands low-read b frame place output low = go (refusal D w b frame place output)
       where
         go : (r : Option Refusal) → LowAnswer (replied r b output (treat D w b (messagesFrom D frame place) output) .answer)

@@ -17,16 +17,16 @@ use Rattle.receiver.specs.declared.Answer.the-variants.{Delivered, Finis
 use Rattle.rows.specs.State as State
 use Rattle.rows.specs.Message.{Draft, Board, Handed, step, messagesFrom}
 use Rattle.rows.specs.Messages.{listed, boardAfter, handedBy, messagesIn}
-use Rattle.receiver.specs.Receive.{frameRefusal, replied, delivered, refusal, treat, receive}
+use Rattle.receiver.specs.Receive.{frameRefusal, replied, delivered, refusal, treat, receiveAs}
 
 module _ (D : Draft) (w : ℕ) where
   -- A call is refused and changes nothing, or treats the messages from its place on.
   pub data Called (b : Board) (frame : List ℕ) (place : ℕ) (output : List ℕ) : Type 0 where
-    denied : (r : Refusal) → receive D w b frame place output ≡ record { answer = Refused r; board = b; output = output } → Called b frame place output
-    treated : receive D w b frame place output ≡ treat D w b (messagesFrom D frame place) output → Called b frame place output
+    denied : (r : Refusal) → receiveAs D w b frame place output ≡ record { answer = Refused r; board = b; output = output } → Called b frame place output
+    treated : receiveAs D w b frame place output ≡ treat D w b (messagesFrom D frame place) output → Called b frame place output
 
   pub called : (b : Board) (frame : List ℕ) (place : ℕ) (output : List ℕ) → Called b frame place output
-  unfolding receive replied
+  unfolding receiveAs replied
   called b frame place output = go (refusal D w b frame place output) refl
     where
       go : (r : Option Refusal) → refusal D w b frame place output ≡ r → Called b frame place output
@@ -35,21 +35,21 @@ module _ (D : Draft) (w : ℕ) where
 
   -- What treating some items comes to: all are treated, or those up to the first that hands out a bundle.
   pub data Treated (b : Board) (is : List Item) (output : List ℕ) : Type 0 where
-    through : treat D w b is output .answer ≡ Finished → handedBy w (D .falling) b (messagesIn is) ≡ [] → boardAfter w (D .falling) b (messagesIn is) ≡ treat D w b is output .board
+    through : treat D w b is output .answer ≡ Finished → handedBy w (D .order) b (messagesIn is) ≡ [] → boardAfter w (D .order) b (messagesIn is) ≡ treat D w b is output .board
         → Treated b is output
     stops : (pre : List Item) (i : Item) (suf : List Item) (h : Handed) → is ≡ pre ++ i ∷ suf
         → treat D w b is output .answer ≡ Delivered (length (h .octets)) (i .next) (h .origin)
         → take (length (h .octets)) (treat D w b is output .output) ≡ h .octets
-        → handedBy w (D .falling) b (messagesIn is) ≡ h ∷ handedBy w (D .falling) (treat D w b is output .board) (messagesIn suf)
-        → boardAfter w (D .falling) b (messagesIn is) ≡ boardAfter w (D .falling) (treat D w b is output .board) (messagesIn suf)
+        → handedBy w (D .order) b (messagesIn is) ≡ h ∷ handedBy w (D .order) (treat D w b is output .board) (messagesIn suf)
+        → boardAfter w (D .order) b (messagesIn is) ≡ boardAfter w (D .order) (treat D w b is output .board) (messagesIn suf)
         → Treated b is output
 
   pub treating : (b : Board) (is : List Item) (output : List ℕ) → Treated b is output
   unfolding treat handedBy boardAfter listed delivered put
   treating b [] output = through refl refl refl
-  treating b (i ∷ is) output = go (step w (D .falling) b (i .message) .handed) refl (treating (step w (D .falling) b (i .message) .board) is output)
+  treating b (i ∷ is) output = go (step w (D .order) b (i .message) .handed) refl (treating (step w (D .order) b (i .message) .board) is output)
     where
-      go : (o : Option Handed) → step w (D .falling) b (i .message) .handed ≡ o → Treated (step w (D .falling) b (i .message) .board) is output → Treated b (i ∷ is) output
+      go : (o : Option Handed) → step w (D .order) b (i .message) .handed ≡ o → Treated (step w (D .order) b (i .message) .board) is output → Treated b (i ∷ is) output
       go none e (through a h r) = through (rw e a) (rw e h) (rw e r)
       go none e (stops pre j suf h q a t hs r) = stops (i ∷ pre) j suf h (ap (λ l. i ∷ l) q) (rw e a) (rw e t) (rw e hs) (rw e r)
       go (some h) e r = stops [] i is h refl (rw e) (rw e (take-append-seam (h .octets) (drop (0 + length (h .octets)) output))) (rw e) (rw e)
@@ -61,27 +61,27 @@ module _ (D : Draft) (w : ℕ) where
       go (through a h q) = let z : _≡_ {A = ℕ} 0 1 = cc in absurd (omega arith)
       go (stops pre i suf h q a t hs v) = let z : _≡_ {A = ℕ} 0 1 = cc in absurd (omega arith)
 
-  pub refused-keeps : (b : Board) (frame : List ℕ) (place : ℕ) (output : List ℕ) (r : Refusal) → receive D w b frame place output .answer ≡ Refused r → receive D w b frame place output .board ≡ b
+  pub refused-keeps : (b : Board) (frame : List ℕ) (place : ℕ) (output : List ℕ) (r : Refusal) → receiveAs D w b frame place output .answer ≡ Refused r → receiveAs D w b frame place output .board ≡ b
   refused-keeps b frame place output r e = go (called b frame place output)
     where
-      go : Called b frame place output → receive D w b frame place output .board ≡ b
+      go : Called b frame place output → receiveAs D w b frame place output .board ≡ b
       go (denied q e) = rw e
       go (treated q) = treat-answers b (messagesFrom D frame place) output r (rw q at e)
 
   -- a call that is not refused treats
-  pub not-refused : (b : Board) (frame : List ℕ) (place : ℕ) (output : List ℕ) → ((r : Refusal) → receive D w b frame place output .answer ≡ Refused r → ⊥)
-      → receive D w b frame place output ≡ treat D w b (messagesFrom D frame place) output
+  pub not-refused : (b : Board) (frame : List ℕ) (place : ℕ) (output : List ℕ) → ((r : Refusal) → receiveAs D w b frame place output .answer ≡ Refused r → ⊥)
+      → receiveAs D w b frame place output ≡ treat D w b (messagesFrom D frame place) output
   not-refused b frame place output never = go (called b frame place output)
     where
-      go : Called b frame place output → receive D w b frame place output ≡ treat D w b (messagesFrom D frame place) output
+      go : Called b frame place output → receiveAs D w b frame place output ≡ treat D w b (messagesFrom D frame place) output
       go (denied r e) = absurd (never r (rw e))
       go (treated q) = q
 
   -- a call on a sound state, with a pool and an output of good size, a well-formed frame and a good place
   pub admitted : (b : Board) (frame : List ℕ) (place : ℕ) (output : List ℕ) (is : List Item) → State.sound (b .state) ≡ true → length (b .pool) ≡ w * bundleMax → bundleMax ≤ length output
       → 0 < length frame → length frame ≤ frameMax → scanned (D .read) frame ≡ row is → (eqb place (length frame) || starts place is) ≡ true
-      → receive D w b frame place output ≡ treat D w b (from place is) output
-  unfolding receive refusal replied frameRefusal checked judged messagesFrom items
+      → receiveAs D w b frame place output ≡ treat D w b (from place is) output
+  unfolding receiveAs refusal replied frameRefusal checked judged messagesFrom items
   admitted b frame place output is s p o positive small whole good =
       let e₁ : eqb (length (b .pool)) (w * bundleMax) ≡ true = eq-eqb (length (b .pool)) (w * bundleMax) p in
       let e₂ : ltb (length output) bundleMax ≡ false = le-ltb (length output) bundleMax o in

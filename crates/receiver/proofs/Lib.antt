@@ -8,6 +8,7 @@
 --     Bounds     the place that a refusal names, and the greatest number, lie within bounds
 --     Reserved   reserved flag bits are ignored
 --     Weight     no octet is handed out twice
+--     Keeping    every call leaves the settings
 pub mod Limit
 pub mod Refusals
 pub mod Pool
@@ -17,3 +18,4 @@ pub mod Standing
 pub mod Bounds
 pub mod Reserved
 pub mod Weight
+pub mod Keeping

@@ -13,6 +13,7 @@ use Rattle.wire.specs.Frame.{Item, items, checked, Sized}
 use Rattle.wire.specs.declared.Checked.the-variants.{Accepted}
 use Rattle.wire.proofs.Places.{taken}
 use Rattle.wire.proofs.Order.{leads, few-items, few-from}
+use Rattle.pieces.specs.declared.Order.{Order}
 use Rattle.pieces.specs.Pieces.{bundleMax}
 use Rattle.rows.specs.Message.{Draft, Board, Handed, step, messagesFrom}
 use Rattle.messages.specs.declared.Limits.{Limits}
@@ -38,24 +39,24 @@ and-false false b e = refl
 
 module _ (D : Draft) (w : ℕ) (most : ℕ) (lengths numbers : List ℕ) where
   -- a bundle is out: the limit is reached
-  full : (p : Run) (is : List Item) → p .progress .count ≡ 1 → run w (D .falling) (once most) p is ≡ p
+  full : (p : Run) (is : List Item) → p .progress .count ≡ 1 → run w (D .order) (once most) p is ≡ p
   unfolding run
   full p [] e = refl
   full p (i ∷ is) e = rw (e, and-false (ltb (p .progress .treated) most) false refl)
 
   one-turn : (k : ℕ) (b b′ : Board) (x : Option Handed) (at : ℕ) (is : List Item) (output : List ℕ) (next : ℕ) (origin : Origin)
-      → replyOf (run w (D .falling) (once most) (unstarted (k + 1) b′ output lengths numbers at origin) is) ≡ treat D w b′ is output
-      → replyOf (run w (D .falling) (once most) (advanced (unstarted k b output lengths numbers next origin) b′ at x) is) ≡ delivered x b′ at output (treat D w b′ is output)
+      → replyOf (run w (D .order) (once most) (unstarted (k + 1) b′ output lengths numbers at origin) is) ≡ treat D w b′ is output
+      → replyOf (run w (D .order) (once most) (advanced (unstarted k b output lengths numbers next origin) b′ at x) is) ≡ delivered x b′ at output (treat D w b′ is output)
   unfolding advanced progressed delivered answerOf
   one-turn k b b′ none at is output next origin later = later
   one-turn k b b′ (some h) at is output next origin later = rw (full (advanced (unstarted k b output lengths numbers next origin) b′ at (some h)) is refl, zero-add)
 
   pub one-bundle : (k : ℕ) (b : Board) (is : List Item) (output : List ℕ) (next : ℕ) (origin : Origin) → bundleMax ≤ length output → k + length is ≤ most
-      → replyOf (run w (D .falling) (once most) (unstarted k b output lengths numbers next origin) is) ≡ treat D w b is output
+      → replyOf (run w (D .order) (once most) (unstarted k b output lengths numbers next origin) is) ≡ treat D w b is output
   unfolding run treat answerOf
   one-bundle k b [] output next origin h few = refl
   one-bundle k b (i ∷ is) output next origin h few =
-      let o = step w (D .falling) b (i .message) in
+      let o = step w (D .order) b (i .message) in
       rw (lt-ltb k most (omega arith), sub-zero, le-leb bundleMax (length output) h) (one-turn k b (o .board) (o .handed) (i .next) is output next origin (one-bundle (k + 1) (o .board) is output (i .next) origin h (omega arith)))
 
 -- a frame has no more messages than octets

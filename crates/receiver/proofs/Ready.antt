@@ -14,6 +14,7 @@ use Rattle.window.specs.declared.Standing.{Standing}
 use Rattle.window.specs.declared.Standing.the-variants.{Inside, New, Outside}
 use Rattle.window.specs.Window.{Window, standingOf, rowOf, enters}
 use Rattle.window.proofs.Entering.{inside-present, row-below}
+use Rattle.pieces.specs.declared.Order.{Order}
 use Rattle.row.specs.declared.Row.{Row}
 use Rattle.row.specs.declared.Phase.the-variants.{Free}
 use Rattle.reassembly.specs.Rules as Rules
@@ -25,9 +26,10 @@ use Rattle.row.proofs.Sound.{empty-sound}
 use Rattle.reassembly.proofs.Kept.{cancel-sound, cancel-shaped, piece-sound, piece-shaped, piece-cell}
 use Rattle.receiver.specs.declared.Refusal.{Refusal}
 use Rattle.rows.specs.State as State
+use Rattle.wire.specs.declared.Version.{Version}
 use Rattle.rows.specs.State.{isFree, soundIn, soundRows, fresh}
 use Rattle.rows.specs.Message.{Draft, Board, Handed, Outcome, cellAt, moved, inRow, treatTransfer, step, messagesFrom}
-use Rattle.receiver.specs.Receive.{Reply, replied, delivered, refusal, treat, receive}
+use Rattle.receiver.specs.Receive.{Reply, replied, delivered, refusal, treat, receiveAs}
 use Rattle.rows.proofs.Rows.{sound-get, sound-set, sound-present, sound-freed, length-freed, getD-freed}
 use Rattle.messages.proofs.Cells.{length-cell, length-put-cell}
 
@@ -43,8 +45,8 @@ record Keeps (rule : Row → List ℕ → Rules.Outcome) : Type 0 where
   shaped : (r : Row) (cell : List ℕ) → Shaped r → Shaped (rule r cell .row)
   cell : (r : Row) (cell : List ℕ) → length cell ≡ bundleMax → length (rule r cell .cell) ≡ bundleMax
 
-keeps-piece : (falling ending : Bool) (i : ℕ) (d : List ℕ) → Keeps (pieceStep falling ending i d)
-keeps-piece falling ending i d = record { sound = piece-sound falling ending i d; shaped = piece-shaped falling ending i d; cell = piece-cell falling ending i d }
+keeps-piece : (order : Order) (ending : Bool) (i : ℕ) (d : List ℕ) → Keeps (pieceStep order ending i d)
+keeps-piece order ending i d = record { sound = piece-sound order ending i d; shaped = piece-shaped order ending i d; cell = piece-cell order ending i d }
 
 keeps-cancel : Keeps cancelStep
 unfolding cancelStep
@@ -96,13 +98,13 @@ module _ (w : ℕ) (win : Window w) where
   transfer-ready (New d) rule K b t e R = row-ready rule K (moved w b t d) t (moved-ready b t d R) refl
   transfer-ready Outside rule K b t e R = R
 
-  pub step-ready : (falling : Bool) (b : Board) (m : Message) → Ready w b → Ready w (step w falling b m .board)
+  pub step-ready : (order : Order) (b : Board) (m : Message) → Ready w b → Ready w (step w order b m .board)
   unfolding step
-  step-ready falling b skipped R = R
-  step-ready falling b (bundle c) R = R
-  step-ready falling b (segment t i d) R = transfer-ready _ _ (keeps-piece falling false i d) b t refl R
-  step-ready falling b (last t i d) R = transfer-ready _ _ (keeps-piece falling true i d) b t refl R
-  step-ready falling b (cancel t) R = transfer-ready _ _ keeps-cancel b t refl R
+  step-ready order b skipped R = R
+  step-ready order b (bundle c) R = R
+  step-ready order b (segment t i d) R = transfer-ready _ _ (keeps-piece order false i d) b t refl R
+  step-ready order b (last t i d) R = transfer-ready _ _ (keeps-piece order true i d) b t refl R
+  step-ready order b (cancel t) R = transfer-ready _ _ keeps-cancel b t refl R
 
   delivered-ready : (o : Option Handed) (b : Board) (next : ℕ) (output : List ℕ) (later : Reply) → Ready w b → Ready w (later .board) → Ready w (delivered o b next output later .board)
   unfolding delivered
@@ -114,12 +116,12 @@ module _ (w : ℕ) (win : Window w) where
     unfolding treat
     treat-ready b [] output R = R
     treat-ready b (i ∷ is) output R =
-        let S = step-ready (D .falling) b (i .message) R in
-        let o : Outcome = step w (D .falling) b (i .message) in
+        let S = step-ready (D .order) b (i .message) R in
+        let o : Outcome = step w (D .order) b (i .message) in
         delivered-ready (o .handed) (o .board) (i .next) output (treat D w (o .board) is output) S (treat-ready (o .board) is output S)
 
-    pub receive-ready : (b : Board) (frame : List ℕ) (place : ℕ) (output : List ℕ) → Ready w b → Ready w (receive D w b frame place output .board)
-    unfolding receive replied
+    pub receive-ready : (b : Board) (frame : List ℕ) (place : ℕ) (output : List ℕ) → Ready w b → Ready w (receiveAs D w b frame place output .board)
+    unfolding receiveAs replied
     receive-ready b frame place output R = go (refusal D w b frame place output)
       where
         go : (r : Option Refusal) → Ready w (replied r b output (treat D w b (messagesFrom D frame place) output) .board)
@@ -136,6 +138,6 @@ module _ (w : ℕ) (win : Window w) where
   free-row (suc n) zero = refl
   free-row (suc n) (suc i) = free-row n i
 
-  pub fresh-ready : (pool : List ℕ) → length pool ≡ w * bundleMax → Ready w (record { state = fresh w; pool = pool })
+  pub fresh-ready : (v : Version) (pool : List ℕ) → length pool ≡ w * bundleMax → Ready w (record { state = fresh v w; pool = pool })
   unfolding fresh State.sound
-  fresh-ready pool l = record { sound = free-rows w; shaped = λ i i<. rw (free-row w i) (empty-shaped Free); rows = length-replicate w (emptyRow Free); pool = l }
+  fresh-ready v pool l = record { sound = free-rows w; shaped = λ i i<. rw (free-row w i) (empty-shaped Free); rows = length-replicate w (emptyRow Free); pool = l }

@@ -18,7 +18,7 @@ use Rattle.wire.specs.declared.Checked.the-variants as Frame
 use Rattle.wire.specs.declared.Fault.the-variants.{ShortHeader, PastFrame, PastMessage, BadContent}
 use Rattle.pieces.specs.Pieces.{bundleMax}
 use Rattle.rows.specs.Message.{Draft, Board, messagesFrom}
-use Rattle.receiver.specs.Receive.{refusalNumber, numberOf, frameRefusal, unfit, replied, refusal, treat, receive}
+use Rattle.receiver.specs.Receive.{refusalNumber, numberOf, frameRefusal, unfit, replied, refusal, treat, receiveAs}
 use Rattle.receiver.specs.Steps.{admission}
 use Rattle.rows.specs.State.{sound}
 use Rattle.receiver.specs.declared.Admission.the-variants.{Admitted, Denied}
@@ -67,12 +67,12 @@ fit D frame place e = go (bool (eqb (length frame) 0 || ltb frameMax (length fra
 
 module _ (D : Draft) (w : ℕ) (b : Board) (frame : List ℕ) (place : ℕ) (output : List ℕ) where
   -- a call that is refused gives back state, pool and output as they were
-  pub refused : (q : Refusal) → refusal D w b frame place output ≡ some q → receive D w b frame place output ≡ record { answer = Refused q; board = b; output = output }
-  unfolding receive replied
+  pub refused : (q : Refusal) → refusal D w b frame place output ≡ some q → receiveAs D w b frame place output ≡ record { answer = Refused q; board = b; output = output }
+  unfolding receiveAs replied
   refused q e = rw e
 
-  pub treated : refusal D w b frame place output ≡ none → receive D w b frame place output ≡ treat D w b (messagesFrom D frame place) output
-  unfolding receive replied
+  pub treated : refusal D w b frame place output ≡ none → receiveAs D w b frame place output ≡ treat D w b (messagesFrom D frame place) output
+  unfolding receiveAs replied
   treated e = rw e
 
   -- what a call that is not refused has

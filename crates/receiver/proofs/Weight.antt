@@ -13,6 +13,7 @@ use Rattle.window.specs.declared.Standing.{Standing}
 use Rattle.window.specs.declared.Standing.the-variants.{Inside, New, Outside}
 use Rattle.window.specs.Window.{Window, rowOf, enters}
 use Rattle.window.proofs.Entering.{row-below}
+use Rattle.pieces.specs.declared.Order.{Order}
 use Rattle.row.specs.declared.Row.{Row}
 use Rattle.row.specs.declared.Phase.the-variants.{Free, Cancelled}
 use Rattle.row.specs.Row.{emptyRow, soundRow, isLive}
@@ -72,8 +73,8 @@ cancel-weight r = cond-elim (λ (q : Row). weight q ≤ weight r) (isLive (r .ph
 abbrev Weighs : ℕ → (Row → List ℕ → Rules.Outcome) → Type 0
 Weighs n rule = (r : Row) (cell : List ℕ) → soundRow r ≡ true → Shaped r → length cell ≡ bundleMax → weight (rule r cell .row) + bundleSize (rule r cell .bundle) ≤ weight r + n
 
-weighs-piece : (falling ending : Bool) (i : ℕ) (d : List ℕ) → Weighs (length d) (pieceStep falling ending i d)
-weighs-piece falling ending i d r cell s z l = piece-weight falling ending i d r cell s z l
+weighs-piece : (order : Order) (ending : Bool) (i : ℕ) (d : List ℕ) → Weighs (length d) (pieceStep order ending i d)
+weighs-piece order ending i d r cell s z l = piece-weight order ending i d r cell s z l
 
 weighs-cancel : Weighs 0 cancelStep
 unfolding cancelStep bundleSize
@@ -83,13 +84,13 @@ weighs-cancel r cell s z l = omega (arith, cancel-weight r)
 abbrev Fits : (Row → List ℕ → Rules.Outcome) → Type 0
 Fits rule = (r : Row) (cell : List ℕ) → soundRow r ≡ true → Shaped r → length cell ≡ bundleMax → bundleSize (rule r cell .bundle) ≤ bundleMax
 
-fits-piece : (falling ending : Bool) (i : ℕ) (d : List ℕ) → Fits (pieceStep falling ending i d)
+fits-piece : (order : Order) (ending : Bool) (i : ℕ) (d : List ℕ) → Fits (pieceStep order ending i d)
 unfolding bundleSize
-fits-piece falling ending i d r cell s z l = go (pieceStep falling ending i d r cell .bundle) refl
+fits-piece order ending i d r cell s z l = go (pieceStep order ending i d r cell .bundle) refl
   where
-    go : (o : Option (List ℕ)) → pieceStep falling ending i d r cell .bundle ≡ o → bundleSize o ≤ bundleMax
+    go : (o : Option (List ℕ)) → pieceStep order ending i d r cell .bundle ≡ o → bundleSize o ≤ bundleMax
     go none e = omega arith
-    go (some x) e = piece-bundle-fits falling ending i d r cell x s z l e
+    go (some x) e = piece-bundle-fits order ending i d r cell x s z l e
 
 fits-cancel : Fits cancelStep
 unfolding cancelStep bundleSize
@@ -116,14 +117,14 @@ module _ (w : ℕ) (win : Window w) where
   transfer-weight Outside n rule W b t R = omega arith
 
   -- a message: what is handed out and what is held after it was held before it, or came with it
-  pub step-weight : (falling : Bool) (b : Board) (m : Message) → Ready w b
-      → octetsOf (step w falling b m .handed) + held (step w falling b m .board .state .rows) ≤ held (b .state .rows) + payload m
+  pub step-weight : (order : Order) (b : Board) (m : Message) → Ready w b
+      → octetsOf (step w order b m .handed) + held (step w order b m .board .state .rows) ≤ held (b .state .rows) + payload m
   unfolding step payload octetsOf handedOf
-  step-weight falling b skipped R = omega arith
-  step-weight falling b (bundle c) R = omega arith
-  step-weight falling b (segment t i d) R = transfer-weight _ (length d) _ (weighs-piece falling false i d) b t R
-  step-weight falling b (last t i d) R = transfer-weight _ (length d) _ (weighs-piece falling true i d) b t R
-  step-weight falling b (cancel t) R = transfer-weight _ 0 _ weighs-cancel b t R
+  step-weight order b skipped R = omega arith
+  step-weight order b (bundle c) R = omega arith
+  step-weight order b (segment t i d) R = transfer-weight _ (length d) _ (weighs-piece order false i d) b t R
+  step-weight order b (last t i d) R = transfer-weight _ (length d) _ (weighs-piece order true i d) b t R
+  step-weight order b (cancel t) R = transfer-weight _ 0 _ weighs-cancel b t R
 
   row-fits : (rule : Row → List ℕ → Rules.Outcome) → Fits rule → (b : Board) (t : ℕ) → Ready w b → octetsOf (inRow w rule b t .handed) ≤ bundleMax
   unfolding inRow State.sound
@@ -142,10 +143,10 @@ module _ (w : ℕ) (win : Window w) where
   transfer-fits Outside rule W b t R = omega arith
 
   -- a bundle handed out is no longer than a bundle may be, if one that came in one message is not
-  pub step-fits : (falling : Bool) (b : Board) (m : Message) → Ready w b → payload m ≤ bundleMax → octetsOf (step w falling b m .handed) ≤ bundleMax
+  pub step-fits : (order : Order) (b : Board) (m : Message) → Ready w b → payload m ≤ bundleMax → octetsOf (step w order b m .handed) ≤ bundleMax
   unfolding step payload octetsOf handedOf
-  step-fits falling b skipped R le = omega arith
-  step-fits falling b (bundle c) R le = le
-  step-fits falling b (segment t i d) R le = transfer-fits _ _ (fits-piece falling false i d) b t R
-  step-fits falling b (last t i d) R le = transfer-fits _ _ (fits-piece falling true i d) b t R
-  step-fits falling b (cancel t) R le = transfer-fits _ _ fits-cancel b t R
+  step-fits order b skipped R le = omega arith
+  step-fits order b (bundle c) R le = le
+  step-fits order b (segment t i d) R le = transfer-fits _ _ (fits-piece order false i d) b t R
+  step-fits order b (last t i d) R le = transfer-fits _ _ (fits-piece order true i d) b t R
+  step-fits order b (cancel t) R le = transfer-fits _ _ fits-cancel b t R

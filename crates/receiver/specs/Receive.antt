@@ -17,7 +17,7 @@ use Rattle.receiver.specs.declared.Refusal.{Refusal}
 use Rattle.receiver.specs.declared.Refusal.the-variants.{Unsound, BufferSize, FrameSize, Malformed, Misplaced}
 use Rattle.receiver.specs.declared.Received.{Received}
 use Rattle.rows.specs.State.{sound}
-use Rattle.rows.specs.Message.{Draft, messagesFrom, Board, Handed, Outcome, step}
+use Rattle.rows.specs.Message.{Draft, draftOf, messagesFrom, Board, Handed, Outcome, step}
 
 -- document 01's numbers of refusal, and the place that the answer names: the first bad message's start, for 4 to 8
 abbrev pub refusalNumber : Refusal → ℕ
@@ -86,8 +86,12 @@ module _ (D : Draft) (w : ℕ) where
   unfoldable pub treat : Board → List Item → List ℕ → Reply
   treat b [] output = record { answer = Finished; board = b; output = output }
   treat b (i ∷ is) output =
-      let o : Outcome = step w (D .falling) b (i .message) in
+      let o : Outcome = step w (D .order) b (i .message) in
       delivered (o .handed) (o .board) (i .next) output (treat (o .board) is output)
 
-  unfoldable pub receive : Board → List ℕ → ℕ → List ℕ → Reply
-  receive b frame place output = replied (refusal b frame place output) b output (treat b (messagesFrom D frame place) output)
+  unfoldable pub receiveAs : Board → List ℕ → ℕ → List ℕ → Reply
+  receiveAs b frame place output = replied (refusal b frame place output) b output (treat b (messagesFrom D frame place) output)
+
+-- the receiving call, by the board's own draft
+abbrev pub receive : ℕ → Board → List ℕ → ℕ → List ℕ → Reply
+receive w b = receiveAs (draftOf (b .state)) w b

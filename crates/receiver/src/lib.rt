@@ -4,15 +4,18 @@ use messages::Progress;
 use pieces::BUNDLE_MAX;
 use row::Phase;
 pub use rows::Origin;
+pub use rows::Settings;
 pub use rows::State;
 use wire::Checked;
 use wire::FRAME_MAX;
 use wire::Fault;
+use wire::Version;
 ghost use mathlib.Core.Path.{_≡_};
+ghost use Rattle.wire.specs.declared.Version.the-variants.{Draft02};
 ghost use Rattle.window.specs.Window.{windowSize};
 ghost use Rattle.rows.specs.State as Spec;
 ghost use Rattle.rows.specs.State.{windowOf};
-ghost use Rattle.rows.specs.Message.{draft02, draftOf};
+ghost use Rattle.rows.specs.Message.{draft, draftOf};
 ghost use Rattle.receiver.specs.Receive as Call;
 ghost use Rattle.receiver.specs.Steps as Steps;
 
@@ -50,15 +53,24 @@ pub enum Admission {
     Denied(Refusal),
 }
 
-pub fn start() -> State
-    ensures { λ r. ⌜ r ≡ Spec.fresh windowSize ⌝ }
+// A receiver of either draft.
+pub fn start_as(version: Version) -> State
+    ensures { λ r. ⌜ r ≡ Spec.fresh version windowSize ⌝ }
 {
     let free = row::empty_row(Phase::Free);
     State {
         present: false,
         greatest: 0,
         rows: [free; 16],
+        settings: Settings { version },
     }
+}
+
+// A receiver of draft 02.
+pub fn start() -> State
+    ensures { λ r. ⌜ r ≡ Spec.fresh Draft02 windowSize ⌝ }
+{
+    start_as(Version::Draft02)
 }
 
 fn admitted(c: Checked) -> Admission
@@ -72,13 +84,13 @@ fn admitted(c: Checked) -> Admission
 }
 
 // Refusals 3 to 9.
-pub fn admit_frame(frame: &[u8], place: usize) -> Admission
-    ensures { λ r. ⌜ r ≡ Steps.admission (Call.unfit draft02 (now (frame .entry)) place) ⌝ }
+pub fn admit_frame(version: Version, frame: &[u8], place: usize) -> Admission
+    ensures { λ r. ⌜ r ≡ Steps.admission (Call.unfit (draft version) (now (frame .entry)) place) ⌝ }
 {
     if (frame.len() == 0) | (FRAME_MAX < frame.len()) {
         return Admission::Denied(Refusal::FrameSize);
     }
-    admitted(wire::check_frame(frame, place))
+    admitted(wire::check_frame(version, frame, place))
 }
 
 // The first refusal that applies.
@@ -89,7 +101,7 @@ fn admit(state: State, pool: &[u8], frame: &[u8], place: usize, output: &[u8]) -
         if (pool.len() != POOL) | (output.len() < BUNDLE_MAX) {
             return Admission::Denied(Refusal::BufferSize);
         }
-        return admit_frame(frame, place);
+        return admit_frame(rows::version_of(state), frame, place);
     }
     Admission::Denied(Refusal::Unsound)
 }
@@ -129,7 +141,7 @@ pub fn receive(
     place: usize,
     output: &mut [u8],
 ) -> Received
-    ensures { λ r. ⌜ Call.reply r (now (pool .exit)) (now (output .exit)) ≡ Call.receive (draftOf state) (windowOf state) (record { state = state; pool = now (pool .entry) }) (now (frame .entry)) place (now (output .entry)) ⌝ }
+    ensures { λ r. ⌜ Call.reply r (now (pool .exit)) (now (output .exit)) ≡ Call.receive (windowOf state) (record { state = state; pool = now (pool .entry) }) (now (frame .entry)) place (now (output .entry)) ⌝ }
 {
     let a = admit(state, &pool[..], frame, place, &output[..]);
     if let Admission::Denied(refusal) = a {

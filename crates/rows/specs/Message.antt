@@ -10,9 +10,13 @@ use Rattle.wire.specs.Frame.{Item, items, scanned, from}
 use Rattle.wire.specs.Message as Wire
 use Rattle.wire.specs.Message.{Message, skipped, bundle, segment, last, cancel}
 use Rattle.wire.specs.Layout as Layout
+use Rattle.wire.specs.declared.Version.{Version}
+use Rattle.wire.specs.declared.Version.the-variants.{Draft00, Draft02}
 use Rattle.window.specs.declared.Standing.{Standing}
 use Rattle.window.specs.declared.Standing.the-variants.{Inside, New, Outside}
 use Rattle.window.specs.Window.{standingOf, rowOf, enters}
+use Rattle.pieces.specs.declared.Order.{Order}
+use Rattle.pieces.specs.declared.Order.the-variants.{Rising, Falling}
 use Rattle.row.specs.declared.Row.{Row}
 use Rattle.row.specs.declared.Phase.the-variants.{Free}
 use Rattle.reassembly.specs.Rules as Rules
@@ -23,18 +27,23 @@ use Rattle.rows.specs.declared.State.{State}
 use Rattle.rows.specs.declared.Origin.{Origin}
 use Rattle.rows.specs.declared.Origin.the-variants.{Whole, Transfer}
 
--- A draft of the protocol: how a message is read, and whether pieces are joined in falling order of index.
+-- A draft of the protocol: how a message is read, and the order of index in which pieces are joined.
 pub record Draft : Type 0 where
   pub read : List ℕ → Wire.Read
-  pub falling : Bool
+  pub order : Order
 
--- document 003, as document 01 narrows it
-abbrev pub draft02 : Draft
-draft02 = record { read = Layout.read; falling = false }
+-- Draft 02 joins "in rising order of index" (document 01); in draft 00 "joining falls" (document 02, E5).
+abbrev pub orderOf : Version → Order
+orderOf Draft00 = Falling
+orderOf Draft02 = Rising
+
+-- document 000; and document 003, as document 01 narrows it
+abbrev pub draft : Version → Draft
+draft v = record { read = Layout.read v; order = orderOf v }
 
 -- the draft of a receiver
 abbrev pub draftOf : State → Draft
-draftOf s = draft02
+draftOf s = draft (s .settings .version)
 
 -- the messages of a frame from a place on
 unfoldable pub messagesFrom : Draft → List ℕ → ℕ → List Item
@@ -76,7 +85,7 @@ module _ (w : ℕ) where
 
   -- G becomes t, and the rows of the d numbers that entered become Free; the pool's octets stay
   unfoldable pub moved : Board → ℕ → ℕ → Board
-  moved b t d = record { state = record { present = true; greatest = t; rows = freedFrom 0 (b .state .greatest) d (b .state .rows) }; pool = b .pool }
+  moved b t d = record { state = record { present = true; greatest = t; rows = freedFrom 0 (b .state .greatest) d (b .state .rows); settings = b .state .settings }; pool = b .pool }
 
   -- the row that number t owns and its cell, as the row rules leave them
   unfoldable pub inRow : (Row → List ℕ → Rules.Outcome) → Board → ℕ → Outcome
@@ -85,7 +94,7 @@ module _ (w : ℕ) where
       let o : Rules.Outcome = rule (getD (b .state .rows) r (emptyRow Free)) (cellAt (b .pool) r) in
       record {
         board = record {
-          state = record { present = b .state .present; greatest = b .state .greatest; rows = set (b .state .rows) r (o .row) };
+          state = record { present = b .state .present; greatest = b .state .greatest; rows = set (b .state .rows) r (o .row); settings = b .state .settings };
           pool = putCell (b .pool) r (o .cell);
         };
         handed = handedOf (Transfer t) (o .bundle);
@@ -101,9 +110,9 @@ module _ (w : ℕ) where
   transfer rule b t = treatTransfer (standingOf w (b .state .present) (b .state .greatest) t) rule b t
 
   -- a bundle message hands out its content each time it comes
-  unfoldable pub step : Bool → Board → Message → Outcome
-  step falling b skipped = unchanged b
-  step falling b (bundle content) = record { board = b; handed = handedOf Whole (some content) }
-  step falling b (segment t i d) = transfer (pieceStep falling false i d) b t
-  step falling b (last t i d) = transfer (pieceStep falling true i d) b t
-  step falling b (cancel t) = transfer cancelStep b t
+  unfoldable pub step : Order → Board → Message → Outcome
+  step order b skipped = unchanged b
+  step order b (bundle content) = record { board = b; handed = handedOf Whole (some content) }
+  step order b (segment t i d) = transfer (pieceStep order false i d) b t
+  step order b (last t i d) = transfer (pieceStep order true i d) b t
+  step order b (cancel t) = transfer cancelStep b t

@@ -4,6 +4,7 @@ use mathlib.Core.List.{List, [], _∷_}
 use Prim.Native.Nat.{ℕ}
 use lib.ListN.{replicate}
 use lib.Dec.{eqb}
+use Rattle.wire.specs.declared.Version.{Version}
 use Rattle.window.specs.Window.{windowSize}
 use Rattle.row.specs.declared.Row.{Row}
 use Rattle.row.specs.declared.Phase.{Phase}
@@ -15,9 +16,9 @@ use Rattle.rows.specs.declared.State.{State}
 abbrev pub windowOf : State → ℕ
 windowOf s = windowSize
 
--- a fresh receiver of window w: G absent, all rows Free
-unfoldable pub fresh : ℕ → State
-fresh w = record { present = false; greatest = 0; rows = replicate w (emptyRow Free) }
+-- a fresh receiver, set to a draft (document 02, E5: "A board is set to one draft at start"), of window w: G absent, all rows Free
+unfoldable pub fresh : Version → ℕ → State
+fresh v w = record { present = false; greatest = 0; rows = replicate w (emptyRow Free); settings = record { version = v } }
 
 abbrev pub isFree : Phase → Bool
 isFree Free = true

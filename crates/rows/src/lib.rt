@@ -1,9 +1,11 @@
 // A receiver's state: the greatest number and a row for each number of the window. Which states are sound, which rows a new number frees,
 // and where a message goes (document 01, "Transfer window" and "Sound state").
+use pieces::Order;
 use row::Phase;
 use row::Row;
 use window::Standing;
 use wire::Kind;
+use wire::Version;
 ghost use mathlib.Core.Path.{_≡_};
 ghost use mathlib.Core.Bool.{true, cond};
 ghost use lib.ListN.{length};
@@ -11,14 +13,21 @@ ghost use lib.Dec.{ltb};
 ghost use Rattle.wire.specs.Layout.{fitting, message};
 ghost use Rattle.window.specs.Window.{windowSize, standingOf};
 ghost use Rattle.rows.specs.State as Spec;
+ghost use Rattle.rows.specs.Message as Message;
 ghost use Rattle.rows.specs.Message.{freedFrom};
 ghost use Rattle.rows.specs.Visit as Visits;
 
-// The greatest transfer number, where there is one yet, and a row for each number of the window.
+// What is chosen at start and stays.
+pub struct Settings {
+    pub version: Version,
+}
+
+// The greatest transfer number, where there is one yet, a row for each number of the window, and the settings.
 pub struct State {
     pub present: bool,
     pub greatest: u32,
     pub rows: [Row; 16],
+    pub settings: Settings,
 }
 
 // Where a bundle comes from: a bundle message, or a transfer with its number.
@@ -45,6 +54,24 @@ pub struct Visit {
     pub present: bool,
     pub greatest: u32,
     pub origin: Origin,
+}
+
+// The draft that a receiver is set to.
+pub fn version_of(state: State) -> Version
+    ensures { λ r. ⌜ r ≡ state .settings .version ⌝ }
+{
+    let settings = state.settings;
+    settings.version
+}
+
+// The order of index in which a draft joins pieces.
+pub fn order_of(version: Version) -> Order
+    ensures { λ r. ⌜ r ≡ Message.orderOf version ⌝ }
+{
+    match version {
+        Version::Draft00 => Order::Falling,
+        Version::Draft02 => Order::Rising,
+    }
 }
 
 fn is_free(phase: Phase) -> bool

@@ -4,7 +4,8 @@
 use mathlib.Core.Path.{_≡_, subst}
 use mathlib.Core.Bool.{true, false}
 use mathlib.Core.List.{List}
-use Prim.Native.Nat.{ℕ, _-_, _≤_, _<_, _^_}
+use Prim.Native.Nat.{ℕ, _+_, _-_, _≤_, _<_, _^_}
+use native.Mathlib.Nat.{div-le-self}
 use native.Mathlib.Omega.{arith}
 use lib.ListN.{length, take, drop, length-take, length-drop}
 use lib.Dec.{eqb}
@@ -13,12 +14,14 @@ use Rattle.octets.specs.Octets.{Octets}
 use Rattle.octets.proofs.Flags.{cond-elim, neither}
 use Rattle.octets.proofs.Numbers.{octets-drop, octets-take}
 use Rattle.octets.proofs.Put.{octets-put}
+use Rattle.wire.specs.declared.Version.{Version}
+use Rattle.wire.specs.declared.Version.the-variants.{Draft00, Draft02}
 use Rattle.wire.specs.Message.{Message, bundle, cancel as cancelling}
 use Rattle.writing.specs.Written.{written}
 use Rattle.writing.proofs.Written.{octets-bundle, octets-piece, octets-cancel, octets-padding}
 use Rattle.framing.specs.declared.State.{State}
 use Rattle.framing.specs.Answers.{Outcome}
-use Rattle.framing.specs.Placing.{bundleMax, room, ended, numbered, advanced, added, closed, placing}
+use Rattle.framing.specs.Placing.{bundleMax, room, roundedUp, indexIn, pieceIndex, marks, ended, numbered, advanced, added, closed, placing}
 use Rattle.framing.proofs.Ways.{placing-ways}
 use Rattle.sender.specs.Answers.{StartReply, made}
 use Rattle.sender.specs.Sound.{sized, sound}
@@ -51,11 +54,11 @@ next-number s n =
       number = cond-elim (λ (k : ℕ). k < 2 ^ 32) (s .begun) (λ _. n .number) λ _. n .next;
     }
 
-pub start-numbered : (p n : ℕ) (s : State) → start p n ≡ made s → n < 2 ^ 32 → Numbered s
+pub start-numbered : (v : Version) (p n : ℕ) (s : State) → start v p n ≡ made s → n < 2 ^ 32 → Numbered s
 unfolding start
-start-numbered p n s e h =
+start-numbered v p n s e h =
     cond-elim (λ (r : StartReply). r ≡ made s → Numbered s) (sized p)
-    (λ _ g. let same : fresh p n ≡ s = cc in subst Numbered same (record { next = h; number = omega arith }))
+    (λ _ g. let same : fresh v p n ≡ s = cc in subst Numbered same (record { next = h; number = omega arith }))
     (λ _ g. absurd (let z : _≡_ {A = ℕ} 0 1 = cc in omega arith)) e
 
 pub place-numbered : (s : State) (b d : List ℕ) → Numbered s → Numbered (place s b d .state)
@@ -81,25 +84,35 @@ flush-numbered s d n =
 abbrev Written : Outcome → Type 0
 Written o = Octets (o .frame)
 
-written-added : (t : State) (m : Message) (d : List ℕ) → Octets d → Octets (written m) → Written (added t m d)
+written-added : (t : State) (m : Message) (d : List ℕ) → Octets d → Octets (written (t .version) m) → Written (added t m d)
 unfolding added advanced
-written-added t m d low new = octets-put d (t .fill) (written m) low new
+written-added t m d low new = octets-put d (t .fill) (written (t .version) m) low new
 
 written-closed : (s : State) (d : List ℕ) → sound s ≡ true → Octets d → Written (closed s d)
 unfolding closed
 written-closed s d ok low = let r = in-range s ok in octets-put d (s .fill) _ low (octets-padding (room s) (omega arith))
 
+-- the index of a piece
+index-low : (v : Version) (s : State) (l : ℕ) → s .size ≤ 2048 → l ≤ bundleMax → s .index ≤ 64 → indexIn v s l < 2 ^ 32
+index-low Draft00 s l h k few =
+    cond-elim (λ (i : ℕ). i < 2 ^ 32) (s .begun) (λ _. omega arith)
+    λ _. omega (arith, div-le-self (l - (room s - 12) + (s .size - 12 - 1)) (s .size - 12))
+index-low Draft02 s l h k few = omega arith
+
 written-placing : (s : State) (b d : List ℕ) → sound s ≡ true → length b ≤ bundleMax → s .index ≤ 64 → Numbered s → Octets b → Octets d
     → Written (placing s b d)
 written-placing s b d ok fits few n new low =
+    let v : Version = s .version in
+    let i : ℕ = pieceIndex s (length b) in
+    let q : i < 2 ^ 32 = index-low v s (length b) (in-range s ok .high) fits few in
     let k = next-number s n .number in
     let rest : List ℕ = drop (s .placed) b in
     let r : Octets rest = octets-drop (s .placed) b new in
     let l : length rest ≡ length b - s .placed = length-drop (s .placed) b in
-    placing-ways Written s d b (λ _ _. written-added s (bundle b) d low (octets-bundle b (omega arith) new)) (written-closed s d ok low)
-    (λ _ _ _. written-added _ _ d low (octets-piece true _ (s .index) rest k (omega arith) (omega arith) r))
+    placing-ways Written s d b (λ _ _. written-added s (bundle b) d low (octets-bundle (s .version) b (omega arith) new)) (written-closed s d ok low)
+    (λ _ _ _. written-added _ _ d low (octets-piece v (marks v (s .begun) true) _ i rest k q (omega arith) r))
     λ _ _ _. written-added _ _ d low
-    (octets-piece false _ (s .index) (take (room s - 12) rest) k (omega arith) (rw length-take (omega arith)) (octets-take (room s - 12) rest r))
+    (octets-piece v (marks v (s .begun) false) _ i (take (room s - 12) rest) k q (rw length-take (omega arith)) (octets-take (room s - 12) rest r))
 
 pub place-octets : (s : State) (b d : List ℕ) → Numbered s → Octets b → Octets d → Octets (place s b d .frame)
 unfolding place placeCases Passed
@@ -114,7 +127,7 @@ pub cancel-octets : (s : State) (d : List ℕ) → Numbered s → Octets d → O
 unfolding cancel
 cancel-octets s d n low =
     unless-ways Written s d (cancelCases s d) (added (ended s) (cancelling (s .number)) d) (λ _. low)
-    λ _. written-added (ended s) _ d low (octets-cancel (s .number) (n .number))
+    λ _. written-added (ended s) _ d low (octets-cancel (s .version) (s .number) (n .number))
 
 pub flush-octets : (s : State) (d : List ℕ) → Octets d → Octets (flush s d .frame)
 unfolding flush flushCases Passed

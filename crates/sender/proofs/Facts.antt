@@ -9,9 +9,12 @@ use native.Mathlib.Omega.{arith}
 use lib.Dec.{eqb}
 use borrow.Author.Tests.{leb-true, ltb-true, eqb-true, not-false, le-leb, lt-ltb, eq-eqb}
 use Rattle.octets.proofs.Flags.{both}
+use Rattle.wire.specs.declared.Version.{Version}
+use Rattle.wire.specs.declared.Version.the-variants.{Draft00, Draft02}
 use Rattle.framing.specs.declared.State.{State}
 use Rattle.framing.specs.Placing.{bundleMax}
-use Rattle.sender.specs.Sound.{roundedUp, ranges, cleared, underWay, fewPieces, sound}
+use Rattle.sender.specs.Sound.{ranges, cleared, underWay, piecesLeft, indexedIn, indexed, sound}
+use Rattle.sender.proofs.Reckoned.{some-left, few-pieces}
 
 pub record Ranges (s : State) : Type 0 where
   pub low : 128 ≤ s .size
@@ -23,12 +26,16 @@ pub record UnderWay (s : State) : Type 0 where
   pub long : s .size - 4 < s .length
   pub fits : s .length ≤ bundleMax
   pub some : 1 ≤ s .placed
-  pub later : 1 ≤ s .index
   pub more : s .placed < s .length
+
+-- the next index, by the draft
+pub data Indexed (s : State) : Version → Type 0 where
+  falls : s .index ≡ piecesLeft s - 1 → Indexed s Draft00
+  rises : 1 ≤ s .index → s .index + piecesLeft s ≤ 64 → Indexed s Draft02
 
 pub record Begun (s : State) : Type 0 where
   pub counted : UnderWay s
-  pub few : s .index + roundedUp (s .length - s .placed) (s .size - 12) ≤ 64
+  pub indexes : Indexed s (s .version)
 
 pub record Cleared (s : State) : Type 0 where
   pub number0 : s .number ≡ 0
@@ -43,13 +50,21 @@ ranges-facts s e₂ =
     record { low = leb-true _ _ h₀; high = leb-true _ _ h₁; filled = ltb-true _ _ h₂ }
 
 pub under-way-facts : (s : State) → underWay s ≡ true → UnderWay s
-under-way-facts s e₅ =
-    let (e₄, h₅) = both _ _ e₅ in
+under-way-facts s e₄ =
     let (e₃, h₄) = both _ _ e₄ in
     let (e₂, h₃) = both _ _ e₃ in
     let (e₁, h₂) = both _ _ e₂ in
     let (h₀, h₁) = both _ _ e₁ in
-    record { empty = eqb-true _ _ h₀; long = ltb-true _ _ h₁; fits = leb-true _ _ h₂; some = leb-true _ _ h₃; later = leb-true _ _ h₄; more = ltb-true _ _ h₅ }
+    record { empty = eqb-true _ _ h₀; long = ltb-true _ _ h₁; fits = leb-true _ _ h₂; some = leb-true _ _ h₃; more = ltb-true _ _ h₄ }
+
+indexed-facts : (v : Version) (s : State) → indexedIn v s ≡ true → Indexed s v
+indexed-facts Draft00 s e = falls (eqb-true _ _ e)
+indexed-facts Draft02 s e = let (h₀, h₁) = both _ _ e in rises (leb-true _ _ h₀) (leb-true _ _ h₁)
+
+-- the next index of a transfer begun is at most that of a start
+pub index-few : {v : Version} {s : State} → Indexed s v → Ranges s → UnderWay s → s .index ≤ 63
+index-few {s = s} (falls e) r u = let m = few-pieces (s .length - s .placed) (s .size - 12) (omega arith) (omega arith) in omega arith
+index-few {s = s} (rises l h) r u = let m = some-left (s .length - s .placed) (s .size - 12) (omega arith) (omega arith) in omega arith
 
 cleared-facts : (s : State) → cleared s ≡ true → Cleared s
 cleared-facts s e₃ =
@@ -64,12 +79,12 @@ same-length true n l o e = eqb-true _ _ (not-false _ o)
 same-length false n l o e = absurd (false≢true e)
 
 -- the tests of a sound state, each as it was answered
-pub sound-by : (s : State) (a b k : Bool) → a ≡ ranges s → b ≡ s .begun → k ≡ underWay s → (a && cond b (k && fewPieces s) (cleared s)) ≡ sound s
+pub sound-by : (s : State) (a b k : Bool) → a ≡ ranges s → b ≡ s .begun → k ≡ underWay s → (a && cond b (k && indexed s) (cleared s)) ≡ sound s
 unfolding sound
 sound-by s a b k e f g = rw (e, f, g)
 
 module _ (s : State) (e : sound s ≡ true) where
-  parts : (b : Bool) → b ≡ s .begun → (ranges s ≡ true) × (cond b (underWay s && fewPieces s) (cleared s) ≡ true)
+  parts : (b : Bool) → b ≡ s .begun → (ranges s ≡ true) × (cond b (underWay s && indexed s) (cleared s) ≡ true)
   parts b f = both (ranges s) _ (sound-by s (ranges s) b (underWay s) refl f refl ∙ e)
 
   pub in-range : Ranges s
@@ -77,8 +92,8 @@ module _ (s : State) (e : sound s ≡ true) where
 
   pub in-transfer : s .begun ≡ true → Begun s
   in-transfer b =
-      let (k, l) = both (underWay s) (fewPieces s) (parts true (sym b) .1) in
-      record { counted = under-way-facts s k; few = leb-true _ _ l }
+      let (k, l) = both (underWay s) (indexed s) (parts true (sym b) .1) in
+      record { counted = under-way-facts s k; indexes = indexed-facts (s .version) s l }
 
   pub at-rest : s .begun ≡ false → Cleared s
   at-rest b = cleared-facts s (parts false (sym b) .1)
@@ -87,6 +102,7 @@ module _ (s : State) (e : sound s ≡ true) where
   within true b n k o =
       let f = in-transfer b in
       let l = o b in
+      let i = index-few (f .indexes) in-range (f .counted) in
       (omega arith, omega arith)
   within false b n k o = let f = at-rest b in (omega arith, omega arith)
 
@@ -97,10 +113,14 @@ module _ (s : State) (r : Ranges s) where
   is-ranged : ranges s ≡ true
   is-ranged = rw (le-leb _ _ (r .low), le-leb _ _ (r .high), lt-ltb _ _ (r .filled))
 
-  is-begun : Begun s → (underWay s && fewPieces s) ≡ true
+  is-indexed : {v : Version} → Indexed s v → indexedIn v s ≡ true
+  is-indexed (falls e) = eq-eqb _ _ e
+  is-indexed (rises l h) = rw (le-leb _ _ l, le-leb _ _ h)
+
+  is-begun : Begun s → (underWay s && indexed s) ≡ true
   is-begun f =
       let k = f .counted in
-      rw (eq-eqb _ _ (k .empty), lt-ltb _ _ (k .long), le-leb _ _ (k .fits), le-leb _ _ (k .some), le-leb _ _ (k .later), lt-ltb _ _ (k .more), le-leb _ _ (f .few))
+      rw (eq-eqb _ _ (k .empty), lt-ltb _ _ (k .long), le-leb _ _ (k .fits), le-leb _ _ (k .some), lt-ltb _ _ (k .more), is-indexed (f .indexes))
 
   is-cleared : Cleared s → cleared s ≡ true
   is-cleared k = rw (eq-eqb _ _ (k .number0), eq-eqb _ _ (k .length0), eq-eqb _ _ (k .placed0), eq-eqb _ _ (k .index0))

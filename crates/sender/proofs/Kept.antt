@@ -4,52 +4,51 @@
 use mathlib.Core.Path.{_≡_, refl, sym, ap, _∙_}
 use mathlib.Core.Bool.{Bool, true, false, false≢true}
 use mathlib.Core.List.{List}
-use Prim.Native.Nat.{ℕ, _+_, _-_, _/_, _≤_, _<_}
+use Prim.Native.Nat.{ℕ, _+_, _-_, _≤_, _<_}
 use native.Mathlib.Omega.{arith}
-use native.Mathlib.Nat.{add-div-right, div-lt-iff-lt-mul}
 use lib.ListN.{length, take, drop, length-take, length-drop}
 use lib.Dec.{eqb}
 use borrow.Author.Tests.{eq-eqb, ne-eqb, eqb-false, leb-true, ltb-false, not-false}
 use Rattle.octets.proofs.Flags.{cond-elim, both, neither}
+use Rattle.wire.specs.declared.Version.{Version}
+use Rattle.wire.specs.declared.Version.the-variants.{Draft00, Draft02}
 use Rattle.wire.specs.Message.{Message, bundle, cancel as cancelling, contentLength}
 use Rattle.writing.specs.Written.{written, piece}
 use Rattle.writing.proofs.Written.{length-written, length-piece}
 use Rattle.framing.specs.declared.State.{State}
 use Rattle.framing.specs.Answers.{placed, Outcome}
-use Rattle.framing.specs.Placing.{bundleMax, room, withFill, ended, numbered, continued, advanced, added, closed, placing}
+use Rattle.framing.specs.Placing.{bundleMax, room, roundedUp, withFill, ended, numbered, continued, indexIn, pieceIndex, nextIndex, marks, advanced, added, closed, placing}
+use Rattle.framing.proofs.Steps.{index-begun, index-first}
 use Rattle.framing.proofs.Ways.{placing-ways}
 use Rattle.sender.specs.Answers.{StartReply, made, unless}
-use Rattle.sender.specs.Sound.{roundedUp, sized, sound}
+use Rattle.sender.specs.Sound.{sized, sound}
 use Rattle.sender.specs.Calls.{fresh, start, placeCases, place, cancelCases, cancel, flushCases, flush}
 use Rattle.sender.proofs.Ways.{Passed, unless-ways}
-use Rattle.sender.proofs.Facts.{Begun, Cleared, in-range, in-transfer, at-rest, same-length, sound-of}
+use Rattle.sender.proofs.Reckoned.{one-less, next-index, few-pieces}
+use Rattle.sender.proofs.Facts.{Indexed, falls, rises, Begun, Cleared, in-range, in-transfer, at-rest, same-length, sound-of}
 
 abbrev Sound : Outcome → Type 0
 Sound o = sound (o .state) ≡ true
 
--- ---- pieces left
-
--- a whole piece less
-one-less : (m n k : ℕ) → 1 ≤ k → m ≡ n + k → roundedUp m k ≡ roundedUp n k + 1
-one-less m n k l e = let q : m + (k - 1) ≡ n + (k - 1) + k = omega arith in ap (λ (j : ℕ). j / k) q ∙ add-div-right (n + (k - 1)) l
-
-piece-less : (l k p n m : ℕ) → k ≡ l → n ≡ m → p + n < k → l - p ≡ k - (p + n) + m
-piece-less l k p n m e f h = omega arith
-
-at-most : (m k : ℕ) → m < bundleMax → 116 ≤ k → roundedUp m k ≤ 63
-at-most m k h l = let q : roundedUp m k < 64 = div-lt-iff-lt-mul {k = k} (omega arith) .1 (omega arith) in omega arith
+-- a whole piece of c octets less
+piece-less : (l k p n c : ℕ) → k ≡ l → n ≡ c → p + n < k → (l - p ≡ k - (p + n) + c) × (l - p - c ≡ k - (p + n)) × (c < l - p)
+piece-less l k p n c e f h = (omega arith, omega arith, omega arith)
 
 -- ---- one message or one padding
 
 cleared-fill : (t : State) (f : ℕ) → Cleared t → Cleared (withFill t f)
 cleared-fill t f c = record { number0 = c .number0; length0 = c .length0; placed0 = c .placed0; index0 = c .index0 }
 
+indexed-fill : {v : Version} (t : State) (f : ℕ) → Indexed t v → Indexed (withFill t f) v
+indexed-fill t f (falls e) = falls e
+indexed-fill t f (rises l h) = rises l h
+
 idle : (s : State) → Cleared (ended s)
 idle s = record { number0 = refl; length0 = refl; placed0 = refl; index0 = refl }
 
 -- t is the state that is left but for its fill; a message that leaves a transfer begun fills the frame
 module _ (t : State) (low : 128 ≤ t .size) (high : t .size ≤ 2048) where
-  added-sound : (m : Message) (d : List ℕ) (n : ℕ) → length (written m) ≡ n → t .fill + n ≤ t .size
+  added-sound : (m : Message) (d : List ℕ) (n : ℕ) → length (written (t .version) m) ≡ n → t .fill + n ≤ t .size
       → (t .begun ≡ true → (t .fill + n ≡ t .size) × Begun (withFill t 0)) → (t .begun ≡ false → Cleared t) → Sound (added t m d)
   unfolding added advanced
   added-sound m d n e h f g =
@@ -68,11 +67,11 @@ module _ (s : State) (ok : sound s ≡ true) (d : List ℕ) where
       sound-of (withFill s 0) (record { low = r .low; high = r .high; filled = omega arith })
       (λ b. let f = in-transfer s ok b in
       let k = f .counted in
-      record { counted = record { empty = refl; long = k .long; fits = k .fits; some = k .some; later = k .later; more = k .more }; few = f .few })
+      record { counted = record { empty = refl; long = k .long; fits = k .fits; some = k .some; more = k .more }; indexes = indexed-fill s 0 (f .indexes) })
       λ b. cleared-fill s 0 (at-rest s ok b)
 
   -- a message that leaves nothing begun
-  ended-sound : (t : State) (m : Message) (n : ℕ) → t .size ≡ s .size → t .fill ≡ s .fill → length (written m) ≡ n → s .fill + n ≤ s .size
+  ended-sound : (t : State) (m : Message) (n : ℕ) → t .size ≡ s .size → t .fill ≡ s .fill → length (written (t .version) m) ≡ n → s .fill + n ≤ s .size
       → t .begun ≡ false → Cleared t → Sound (added t m d)
   ended-sound t m n p q e h b c =
       let r = in-range s ok in
@@ -83,37 +82,52 @@ module _ (s : State) (ok : sound s ≡ true) (d : List ℕ) where
     unfolding contentLength
     whole-sound h k =
         let r = in-range s ok in
-        added-sound s (r .low) (r .high) (bundle b) d (4 + length b) (length-written (bundle b)) (omega arith)
+        added-sound s (r .low) (r .high) (bundle b) d (4 + length b) (length-written (s .version) (bundle b)) (omega arith)
         (λ y. absurd (let f = in-transfer s ok y .counted in let g = same y in omega arith)) (at-rest s ok)
 
-    few-left : (t : Bool) → t ≡ s .begun → (n : ℕ) → n ≡ room s - 12 → 13 ≤ room s → s .placed + n < length b
-        → s .index + 1 + roundedUp (length b - (s .placed + n)) (s .size - 12) ≤ 64
-    few-left true e n k h l =
+    -- the index behind the next piece
+    next-indexed : (v : Version) (y : Bool) → s .begun ≡ y → (s .begun ≡ true → Indexed s v) → (n : ℕ) → n ≡ room s - 12 → 13 ≤ room s → s .placed + n < length b
+        → Indexed (withFill (continued (numbered s) (length b) n (nextIndex v (indexIn v s (length b)))) 0) v
+    next-indexed v true e f n k h l = rw (index-begun v s (length b) e) (go (f e))
+      where
+        go : {u : Version} → Indexed s u → Indexed (withFill (continued (numbered s) (length b) n (nextIndex u (s .index))) 0) u
+        go (falls q) =
+            let r = in-range s ok in
+            let u = in-transfer s ok e .counted in
+            let c : n ≡ s .size - 12 = omega arith in
+            let z = piece-less (s .length) (length b) (s .placed) n (s .size - 12) (same e) c l in
+            falls (ap (λ (j : ℕ). j - 1) q ∙ sym (rw (z .1) at (next-index (s .length - s .placed) (s .size - 12) (omega arith) (z .2) .1)))
+        go (rises p q) =
+            let r = in-range s ok in
+            let u = in-transfer s ok e .counted in
+            let c : n ≡ s .size - 12 = omega arith in
+            let z = piece-less (s .length) (length b) (s .placed) n (s .size - 12) (same e) c l in
+            let y = one-less (s .length - s .placed) (length b - (s .placed + n)) (s .size - 12) (omega arith) (z .0) in
+            rises (omega arith) (omega arith)
+    next-indexed Draft00 false e f n k h l =
+        let c = at-rest s ok e in
+        let z : length b - (room s - 12) ≡ length b - (s .placed + n) = omega arith in
+        falls (ap (λ (j : ℕ). j - 1) (index-first s (length b) e ∙ ap (λ (j : ℕ). roundedUp j (s .size - 12)) z))
+    next-indexed Draft02 false e f n k h l =
         let r = in-range s ok in
-        let f = in-transfer s ok (sym e) in
-        let z : n ≡ s .size - 12 = omega arith in
-        let st = one-less (s .length - s .placed) (length b - (s .placed + n)) (s .size - 12) (omega arith) (piece-less (s .length) (length b) (s .placed) n (s .size - 12) (same (sym e)) z l) in
-        omega arith
-    few-left false e n k h l =
-        let r = in-range s ok in
-        let f = at-rest s ok (sym e) in
-        let m = at-most (length b - (s .placed + n)) (s .size - 12) (omega arith) (omega arith) in
-        omega arith
+        let c = at-rest s ok e in
+        let m = few-pieces (length b - (s .placed + n)) (s .size - 12) (omega arith) (omega arith) in
+        rises (omega arith) (omega arith)
 
-    more-sound : (n : ℕ) → n ≡ room s - 12 → s .size < length b + 4 → 13 ≤ room s → n < length (drop (s .placed) b)
-        → Sound (added (continued (numbered s) (length b) n) (piece false (numbered s .number) (s .index) (take n (drop (s .placed) b))) d)
-    more-sound n e h k l =
+    more-sound : (n i : ℕ) (k : Bool) → n ≡ room s - 12 → s .size < length b + 4 → 13 ≤ room s → n < length (drop (s .placed) b)
+        → Sound (added (continued (numbered s) (length b) n (nextIndex (s .version) (pieceIndex s (length b)))) (piece k (numbered s .number) i (take n (drop (s .placed) b))) d)
+    more-sound n i k e h g l =
         let r = in-range s ok in
         let x : List ℕ = take n (drop (s .placed) b) in
         let y : length (drop (s .placed) b) ≡ length b - s .placed = length-drop (s .placed) b in
         let w : length x ≡ n = rw length-take (omega arith) in
-        let t : State = continued (numbered s) (length b) n in
-        added-sound t (r .low) (r .high) (piece false (numbered s .number) (s .index) x) d (12 + n) (rw w at (length-piece false (numbered s .number) (s .index) x)) (omega arith)
+        let t : State = continued (numbered s) (length b) n (nextIndex (s .version) (pieceIndex s (length b))) in
+        added-sound t (r .low) (r .high) (piece k (numbered s .number) i x) d (12 + n) (rw w at (length-piece (s .version) k (numbered s .number) i x)) (omega arith)
         (λ _. (
           omega arith,
           record {
-            counted = record { empty = refl; long = omega arith; fits = fits; some = omega arith; later = omega arith; more = omega arith };
-            few = few-left (s .begun) refl n e k (omega arith);
+            counted = record { empty = refl; long = omega arith; fits = fits; some = omega arith; more = omega arith };
+            indexes = next-indexed (s .version) (s .begun) refl (λ z. in-transfer s ok z .indexes) n e g (omega arith);
           },
         ))
         λ z. absurd (false≢true (sym z))
@@ -122,23 +136,25 @@ module _ (s : State) (ok : sound s ≡ true) (d : List ℕ) where
     placing-sound =
         let r = in-range s ok in
         placing-ways Sound s d b whole-sound closed-sound
-        (λ h k l. ended-sound (ended (numbered s)) (piece true (numbered s .number) (s .index) (drop (s .placed) b)) (12 + length (drop (s .placed) b)) refl refl
-        (length-piece true (numbered s .number) (s .index) (drop (s .placed) b)) (omega arith) refl (idle (numbered s)))
-        (more-sound (room s - 12) refl)
+        (λ h k l. let j = marks (s .version) (s .begun) true in
+        let i = pieceIndex s (length b) in
+        ended-sound (ended (numbered s)) (piece j (numbered s .number) i (drop (s .placed) b)) (12 + length (drop (s .placed) b)) refl refl
+        (length-piece (s .version) j (numbered s .number) i (drop (s .placed) b)) (omega arith) refl (idle (numbered s)))
+        (more-sound (room s - 12) _ _ refl)
 
 -- ---- the calls
 
-fresh-sound : (p n : ℕ) → sized p ≡ true → sound (fresh p n) ≡ true
-fresh-sound p n e =
+fresh-sound : (v : Version) (p n : ℕ) → sized p ≡ true → sound (fresh v p n) ≡ true
+fresh-sound v p n e =
     let (l, h) = both _ _ e in
     let low : 128 ≤ p = leb-true _ _ l in
-    sound-of (fresh p n) (record { low = low; high = leb-true _ _ h; filled = omega arith }) (λ y. absurd (false≢true y)) λ _. idle (fresh p n)
+    sound-of (fresh v p n) (record { low = low; high = leb-true _ _ h; filled = omega arith }) (λ y. absurd (false≢true y)) λ _. idle (fresh v p n)
 
-pub start-sound : (p n : ℕ) (s : State) → start p n ≡ made s → sound s ≡ true
+pub start-sound : (v : Version) (p n : ℕ) (s : State) → start v p n ≡ made s → sound s ≡ true
 unfolding start
-start-sound p n s =
+start-sound v p n s =
     cond-elim (λ (r : StartReply). r ≡ made s → sound s ≡ true) (sized p)
-    (λ e g. let same : fresh p n ≡ s = cc in rw same at (fresh-sound p n e))
+    (λ e g. let same : fresh v p n ≡ s = cc in rw same at (fresh-sound v p n e))
     λ e g. absurd (let z : _≡_ {A = ℕ} 0 1 = cc in omega arith)
 
 pub place-sound : (s : State) (b d : List ℕ) → sound s ≡ true → Sound (place s b d)
@@ -155,7 +171,7 @@ cancel-sound s d ok =
     unless-ways Sound s d (cancelCases s d) (added (ended s) (cancelling (s .number)) d) (λ _. ok)
     λ p. let r = in-range s ok in
     let f = in-transfer s ok (not-false _ (p .1 .1 .0)) .counted in
-    ended-sound s ok d (ended s) (cancelling (s .number)) 8 refl refl (length-written (cancelling (s .number))) (omega arith) refl (idle s)
+    ended-sound s ok d (ended s) (cancelling (s .number)) 8 refl refl (length-written (s .version) (cancelling (s .number))) (omega arith) refl (idle s)
 
 pub flush-sound : (s : State) (d : List ℕ) → sound s ≡ true → Sound (flush s d)
 unfolding flush
@@ -167,4 +183,4 @@ unfolding cancel cancelCases unless added advanced contentLength
 cancel-placed s d ok e b =
     let r = in-range s ok in
     let f = in-transfer s ok b .counted in
-    rw (ok, eq-eqb _ _ e, b, length-written (cancelling (s .number)), ne-eqb (s .fill + 8) (s .size) (λ y. omega arith))
+    rw (ok, eq-eqb _ _ e, b, length-written (s .version) (cancelling (s .number)), ne-eqb (s .fill + 8) (s .size) (λ y. omega arith))

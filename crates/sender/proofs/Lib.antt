@@ -4,6 +4,8 @@
 --     Bounds     numbers have 32 bits, and frames of octets stay octets
 --     Ways       the ways through the calls
 --     Facts      what a sound state says
+--     Reckoned   the index of a piece, reckoned from the octets that remain
+pub mod Reckoned
 pub mod Facts
 pub mod Ways
 pub mod Refusals

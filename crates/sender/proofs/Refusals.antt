@@ -11,6 +11,7 @@ use native.Mathlib.Omega.{arith}
 use lib.ListN.{length}
 use lib.Dec.{eqb}
 use Rattle.octets.proofs.Flags.{cond-elim}
+use Rattle.wire.specs.declared.Version.{Version}
 use Rattle.wire.specs.Message.{Message, cancel as cancelling}
 use Rattle.writing.specs.Written.{written}
 use Rattle.framing.specs.declared.State.{State}
@@ -26,7 +27,7 @@ Carried o = isRefusal (o .answer) ≡ false
 
 carried-added : (s : State) (m : Message) (d : List ℕ) → Carried (added s m d)
 unfolding added advanced isRefusal
-carried-added s m d = cond-elim (λ (r : Reply). isRefusal r ≡ false) (eqb (s .fill + length (written m)) (s .size)) (λ _. refl) λ _. refl
+carried-added s m d = cond-elim (λ (r : Reply). isRefusal r ≡ false) (eqb (s .fill + length (written (s .version) m)) (s .size)) (λ _. refl) λ _. refl
 
 carried-closed : (s : State) (d : List ℕ) → Carried (closed s d)
 unfolding closed isRefusal
@@ -108,9 +109,9 @@ module _ (s : State) (d : List ℕ) where
   unfolding flush flushCases
   flush-some n = unless-some s d _ (carried-flush s d) (flushCases s d) (omega arith, (omega arith, tt)) n
 
-pub start-first : (p n : ℕ) → startNumber (start p n) ≡ cond (sized p) 0 14
+pub start-first : (v : Version) (p n : ℕ) → startNumber (start v p n) ≡ cond (sized p) 0 14
 unfolding start startNumber
-start-first p n = cond-elim (λ (r : StartReply). startNumber r ≡ cond (sized p) 0 14) (sized p) (λ e. rw e) λ e. rw e
+start-first v p n = cond-elim (λ (r : StartReply). startNumber r ≡ cond (sized p) 0 14) (sized p) (λ e. rw e) λ e. rw e
 
 -- ---- the order of the cases
 

@@ -4,6 +4,7 @@ use mathlib.Core.List.{List, [], _∷_}
 use Prim.Native.Nat.{ℕ}
 use lib.ListN.{length}
 use lib.Dec.{ltb, eqb}
+use Rattle.wire.specs.declared.Version.{Version}
 use Rattle.wire.specs.Message.{cancel as cancelling}
 use Rattle.framing.specs.declared.State.{State}
 use Rattle.framing.specs.Answers.{nothing, Outcome}
@@ -11,11 +12,11 @@ use Rattle.framing.specs.Placing.{bundleMax, ended, added, closed, placing}
 use Rattle.sender.specs.Answers.{StartReply, made, denied, Case, refusal, unless}
 use Rattle.sender.specs.Sound.{sized, sound}
 
-abbrev pub fresh : ℕ → ℕ → State
-fresh p n = record { size = p; fill = 0; next = n; begun = false; number = 0; length = 0; placed = 0; index = 0 }
+abbrev pub fresh : Version → ℕ → ℕ → State
+fresh v p n = record { size = p; fill = 0; next = n; begun = false; number = 0; length = 0; placed = 0; index = 0; version = v }
 
-unfoldable pub start : ℕ → ℕ → StartReply
-start p n = cond (sized p) (made (fresh p n)) (denied 14)
+unfoldable pub start : Version → ℕ → ℕ → StartReply
+start v p n = cond (sized p) (made (fresh v p n)) (denied 14)
 
 -- State unsound; frame buffer not P octets.
 abbrev pub common : State → List ℕ → List Case → List Case

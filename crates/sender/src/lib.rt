@@ -4,7 +4,9 @@ pub use framing::Refusal;
 pub use framing::Sent;
 pub use framing::State;
 pub use framing::refusal_number;
+use wire::Version;
 ghost use mathlib.Core.Path.{_≡_};
+ghost use Rattle.wire.specs.declared.Version.the-variants.{Draft02};
 ghost use Prim.Native.Nat.{_≤_, _<_};
 ghost use Rattle.framing.specs.Answers.{outcome};
 ghost use Rattle.framing.specs.Placing.{bundleMax};
@@ -45,17 +47,28 @@ fn under_way(s: State) -> bool
         & (s.size - 4 < s.length)
         & (s.length <= BUNDLE_MAX)
         & (1 <= s.placed)
-        & (1 <= s.index)
         & (s.placed < s.length)
 }
 
-fn few_pieces(s: State) -> bool
+fn pieces_left(s: State) -> usize
     requires { ⌜ (13 ≤ s .size) × (s .size ≤ 2048) × (s .placed < s .length) × (s .length ≤ bundleMax) ⌝ }
-    ensures { λ r. ⌜ r ≡ Sound.fewPieces s ⌝ }
+    ensures { λ r. ⌜ (r ≡ Sound.piecesLeft s) × (1 ≤ r) × (r ≤ 8192) ⌝ }
 {
     let each = s.size - 12;
-    let pieces = (s.length - s.placed + (each - 1)) / each;
-    s.index as usize + pieces <= 64
+    (s.length - s.placed + (each - 1)) / each
+}
+
+fn indexed(s: State) -> bool
+    requires { ⌜ (13 ≤ s .size) × (s .size ≤ 2048) × (s .placed < s .length) × (s .length ≤ bundleMax) ⌝ }
+    ensures { λ r. ⌜ r ≡ Sound.indexed s ⌝ }
+{
+    let version = s.version;
+    let left = pieces_left(s);
+    let index = s.index as usize;
+    match version {
+        Version::Draft00 => index == left - 1,
+        Version::Draft02 => (1 <= index) & (index + left <= 64),
+    }
 }
 
 pub fn sound(s: State) -> bool
@@ -64,7 +77,7 @@ pub fn sound(s: State) -> bool
     if ranges(s) {
         if s.begun {
             if under_way(s) {
-                return few_pieces(s);
+                return indexed(s);
             }
             return false;
         }
@@ -82,8 +95,9 @@ fn refused(refusal: Refusal, state: State) -> Sent
     }
 }
 
-pub fn start(size: usize, first: u32) -> Started
-    ensures { λ r. ⌜ startReply r ≡ Calls.start size first ⌝ }
+// A sender of either draft.
+pub fn start_as(version: Version, size: usize, first: u32) -> Started
+    ensures { λ r. ⌜ startReply r ≡ Calls.start version size first ⌝ }
 {
     if sized(size) {
         return Started::Made(State {
@@ -95,9 +109,16 @@ pub fn start(size: usize, first: u32) -> Started
             length: 0,
             placed: 0,
             index: 0,
+            version,
         });
     }
     Started::Refused(Refusal::FrameSize)
+}
+
+pub fn start(size: usize, first: u32) -> Started
+    ensures { λ r. ⌜ startReply r ≡ Calls.start Draft02 size first ⌝ }
+{
+    start_as(Version::Draft02, size, first)
 }
 
 pub fn place(s: State, bundle: &[u8], frame: &mut [u8]) -> Sent

@@ -9,6 +9,7 @@ use lib.Dec.{eqb}
 use Rattle.octets.specs.Octets.{Octets}
 use Rattle.octets.proofs.Numbers.{octets-drop, octets-take, number-low}
 use Rattle.octets.proofs.Flags.{cond-elim}
+use Rattle.wire.specs.declared.Version.{Version}
 use Rattle.wire.specs.declared.Kind.{Kind}
 use Rattle.wire.specs.declared.Kind.the-variants.{Skipped, Bundle, Segment, End, Cancel}
 use Rattle.wire.specs.declared.Fault.{Fault}
@@ -90,8 +91,8 @@ low-holds xs (good m s) low (holds h) =
     let n = contentLength m in
     rw (h .means) (low-message (kind m) (take n (drop (s - n) xs)) (octets-take n (drop (s - n) xs) (octets-drop (s - n) xs low)))
 
-pub read-low : (xs : List ℕ) → Octets xs → LowRead (read xs)
-read-low xs low = low-holds xs (read xs) low (holds-read xs)
+pub read-low : (v : Version) (xs : List ℕ) → Octets xs → LowRead (read v xs)
+read-low v xs low = low-holds xs (read v xs) low (holds-read v xs)
 
 low-prepend : (i : Item) (s : Scan) → Low (i .message) → LowItems (items s) → LowItems (items (prepend i s))
 unfolding LowItems items prepend

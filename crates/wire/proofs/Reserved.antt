@@ -10,11 +10,12 @@ use lib.ListN.{length, getD, take, drop, length-append, take-append-drop}
 use lib.Dec.{ltb, leb}
 use borrow.Author.Tests.{leb-true, leb-false, le-leb, lt-leb}
 use Rattle.octets.proofs.Flags.{bool}
+use Rattle.wire.specs.declared.Version.the-variants.{Draft02}
 use Rattle.wire.specs.declared.Kind.{Kind}
 use Rattle.wire.specs.declared.Kind.the-variants.{Skipped, Bundle, Segment, End, Cancel}
 use Rattle.wire.specs.declared.Fault.{Fault}
 use Rattle.wire.specs.Message.{Message, Read, bad, good}
-use Rattle.wire.specs.Layout.{zeros, kindOf, lengthField, Chain, overrun, behind, hints, fitting, content, body, bodied, read}
+use Rattle.wire.specs.Layout.{zeros, kindOf, lengthField, Chain, overrun, behind, hints, fitting, content, body, bodied, read, hinted}
 use Rattle.wire.specs.Layout as Layout
 use Rattle.wire.specs.Frame.{Scan, prepend, follow, scan, scanned, checked}
 use Rattle.wire.specs.Reserved.{withReserved, said, SameButReserved, same, padded, headed}
@@ -62,7 +63,7 @@ pub any-reserved : (x y : ℕ) → x / 128 ≡ y / 128 → x % 16 ≡ y % 16 →
 any-reserved x y h l = omega arith
 
 same-headed : (xs ys : List ℕ) (t x bits a b : ℕ) → length xs ≡ length ys → take (said x a b) xs ≡ take (said x a b) ys
-    → Layout.headed (suc t ∷ x ∷ a ∷ b ∷ xs) ≡ Layout.headed (suc t ∷ withReserved bits x ∷ a ∷ b ∷ ys)
+    → Layout.headed Draft02 (suc t ∷ x ∷ a ∷ b ∷ xs) ≡ Layout.headed Draft02 (suc t ∷ withReserved bits x ∷ a ∷ b ∷ ys)
 unfolding Layout.headed lengthField bodied
 same-headed xs ys t x bits a b l e = rw (← same-flag bits x, ← same-top bits x, l, e)
 
@@ -88,11 +89,11 @@ taking-body Segment c n = taking-content Segment c n
 taking-body End c n = taking-content End c n
 taking-body Cancel c n = taking-content Cancel c n
 
-taking-headed : (xs : List ℕ) → Taking (4 + lengthField xs) (Layout.headed xs)
+taking-headed : (xs : List ℕ) → Taking (4 + lengthField Draft02 xs) (Layout.headed Draft02 xs)
 unfolding Layout.headed bodied
 taking-headed xs =
     taking-cond (ltb (length xs) 4) refused
-    (taking-cond (ltb (length xs) (4 + lengthField xs)) refused (taking-body (kindOf (getD xs 0 0)) (hints (leb 128 (getD xs 1 0)) (take (lengthField xs) (drop 4 xs))) (4 + lengthField xs)))
+    (taking-cond (ltb (length xs) (4 + lengthField Draft02 xs)) refused (taking-body (kindOf Draft02 (getD xs 0 0)) (hints (hinted Draft02 (getD xs 1 0)) (take (lengthField Draft02 xs) (drop 4 xs))) (4 + lengthField Draft02 xs)))
 
 -- what follows it is looked at behind n octets only
 follow-taking : {n : ℕ} {r : Read} (p : ℕ) (f g : ℕ → Scan) → Taking n r → f n ≡ g n → follow p r f ≡ follow p r g
@@ -102,7 +103,7 @@ follow-taking p f g takes e = ap (prepend _) e
 
 -- ---- the frame
 
-same-scan : {xs ys : List ℕ} → SameButReserved xs ys → (n p : ℕ) → scan read n p xs ≡ scan read n p ys
+same-scan : {xs ys : List ℕ} → SameButReserved xs ys → (n p : ℕ) → scan (read Draft02) n p xs ≡ scan (read Draft02) n p ys
 unfolding scan read follow lengthField
 same-scan r zero p = refl
 same-scan (same xs) (suc n) p = refl
@@ -112,17 +113,17 @@ same-scan (padded {xs} {ys} r) (suc n) p =
 same-scan (headed {xs} {ys} t x bits a b e r) (suc n) p =
     let us : List ℕ = suc t ∷ x ∷ a ∷ b ∷ xs in
     let vs : List ℕ = suc t ∷ withReserved bits x ∷ a ∷ b ∷ ys in
-    let m = lengthField us in
+    let m = lengthField Draft02 us in
     let four : 4 + m ≡ suc (suc (suc (suc m))) = omega arith in
-    let rest : scan read n (p + (4 + m)) (drop (4 + m) us) ≡ scan read n (p + (4 + m)) (drop (4 + m) vs) = rw four (same-scan r n (p + suc (suc (suc (suc m))))) in
-    follow-taking p (λ size. scan read n (p + size) (drop size us)) (λ size. scan read n (p + size) (drop size vs)) (taking-headed us) rest
-    ∙ ap (λ (q : Read). follow p q (λ size. scan read n (p + size) (drop size vs))) (same-headed xs ys t x bits a b (parted m xs ys e (same-length r)) e)
+    let rest : scan (read Draft02) n (p + (4 + m)) (drop (4 + m) us) ≡ scan (read Draft02) n (p + (4 + m)) (drop (4 + m) vs) = rw four (same-scan r n (p + suc (suc (suc (suc m))))) in
+    follow-taking p (λ size. scan (read Draft02) n (p + size) (drop size us)) (λ size. scan (read Draft02) n (p + size) (drop size vs)) (taking-headed us) rest
+    ∙ ap (λ (q : Read). follow p q (λ size. scan (read Draft02) n (p + size) (drop size vs))) (same-headed xs ys t x bits a b (parted m xs ys e (same-length r)) e)
 
 -- the same messages, and the same judgement of every place
-pub same-scanned : {xs ys : List ℕ} → SameButReserved xs ys → scanned read xs ≡ scanned read ys
+pub same-scanned : {xs ys : List ℕ} → SameButReserved xs ys → scanned (read Draft02) xs ≡ scanned (read Draft02) ys
 unfolding scanned
-same-scanned {xs} {ys} r = same-scan r (length xs) 0 ∙ ap (λ n. scan read n 0 ys) (same-length r)
+same-scanned {xs} {ys} r = same-scan r (length xs) 0 ∙ ap (λ n. scan (read Draft02) n 0 ys) (same-length r)
 
-pub same-checked : {xs ys : List ℕ} → SameButReserved xs ys → (place : ℕ) → checked read xs place ≡ checked read ys place
+pub same-checked : {xs ys : List ℕ} → SameButReserved xs ys → (place : ℕ) → checked (read Draft02) xs place ≡ checked (read Draft02) ys place
 unfolding checked
 same-checked r place = rw (same-length r, same-scanned r)

@@ -9,13 +9,14 @@ use lib.ListN.{length, getD, take, drop, length-take, length-drop}
 use lib.Seq.{drop-drop, take-nil}
 use lib.Dec.{ltb, leb}
 use borrow.Author.Tests.{ltb-false}
+use Rattle.wire.specs.declared.Version.{Version}
 use Rattle.wire.specs.declared.Kind.{Kind}
 use Rattle.wire.specs.declared.Kind.the-variants.{Skipped, Bundle, Segment, End, Cancel}
 use Rattle.wire.specs.declared.Fault.{Fault}
 use Rattle.wire.specs.declared.Span.{Span}
 use Rattle.wire.specs.declared.Reading.the-variants.{Good}
 use Rattle.wire.specs.Message.{Message, skipped, Read, bad, good, kind, contentLength, span, answer}
-use Rattle.wire.specs.Layout.{zeros, kindOf, lengthField, Chain, overrun, behind, hints, fitting, message, content, body, bodied, headed, read}
+use Rattle.wire.specs.Layout.{zeros, kindOf, hinted, lengthField, Chain, overrun, behind, hints, fitting, message, content, body, bodied, headed, read}
 use Rattle.wire.specs.Frame.{Sized, none, some}
 use Rattle.wire.proofs.Apart.{good-bad}
 use Rattle.wire.proofs.Runs.{zeros-fit}
@@ -71,36 +72,36 @@ holds-body Segment size xs h c t = holds-content Segment size xs (λ e. omega ar
 holds-body End size xs h c t = holds-content End size xs (λ e. omega arith) h c t
 holds-body Cancel size xs h c t = holds-content Cancel size xs (λ e. omega arith) h c t
 
-holds-headed : (xs : List ℕ) → Holds xs (headed xs)
+holds-headed : (v : Version) (xs : List ℕ) → Holds xs (headed v xs)
 unfolding headed bodied
-holds-headed xs =
+holds-headed v xs =
     holds-cond (ltb (length xs) 4) (λ _. refused)
-    λ _. holds-cond (ltb (length xs) (4 + lengthField xs)) (λ _. refused)
-    λ e. holds-body (kindOf (getD xs 0 0)) (lengthField xs) xs (ltb-false _ _ e) (hints (leb 128 (getD xs 1 0)) (take (lengthField xs) (drop 4 xs))) (tail-hints _ _)
+    λ _. holds-cond (ltb (length xs) (4 + lengthField v xs)) (λ _. refused)
+    λ e. holds-body (kindOf v (getD xs 0 0)) (lengthField v xs) xs (ltb-false _ _ e) (hints (hinted v (getD xs 1 0)) (take (lengthField v xs) (drop 4 xs))) (tail-hints _ _)
 
-pub holds-read : (xs : List ℕ) → Holds xs (read xs)
+pub holds-read : (v : Version) (xs : List ℕ) → Holds xs (read v xs)
 unfolding read
-holds-read [] = refused
-holds-read (zero ∷ xs) = holds-skipped (0 ∷ xs) (1 + zeros xs) (omega arith) (omega (arith, zeros-fit xs))
-holds-read (suc t ∷ xs) = holds-headed (suc t ∷ xs)
+holds-read v [] = refused
+holds-read v (zero ∷ xs) = holds-skipped (0 ∷ xs) (1 + zeros xs) (omega arith) (omega (arith, zeros-fit xs))
+holds-read v (suc t ∷ xs) = holds-headed v (suc t ∷ xs)
 
 sized-holds : {xs : List ℕ} {r : Read} → Holds xs r → Sized (length xs) r
 sized-holds refused = none
 sized-holds (holds h) = some (h .positive) (h .within)
 
-pub sized : (xs : List ℕ) → Sized (length xs) (read xs)
-sized xs = sized-holds (holds-read xs)
+pub sized : (v : Version) (xs : List ℕ) → Sized (length xs) (read v xs)
+sized v xs = sized-holds (holds-read v xs)
 
 -- The message that a span of the frame stands for, and that the span lies within the frame.
-pub record Located (frame : List ℕ) (at : ℕ) (m : Span) : Type 0 where
-  pub means : read (drop at frame) ≡ good (message (m .kind) (take (m .end - m .start) (drop (m .start) frame))) (m .end - at)
+pub record Located (v : Version) (frame : List ℕ) (at : ℕ) (m : Span) : Type 0 where
+  pub means : read v (drop at frame) ≡ good (message (m .kind) (take (m .end - m .start) (drop (m .start) frame))) (m .end - at)
   pub fits : fitting (m .kind) (m .end - m .start) ≡ true
   pub ordered : m .start ≤ m .end
   pub later : at < m .end
   pub within : m .end ≤ length frame
 
-module _ (frame : List ℕ) (at : ℕ) (here : at ≤ length frame) where
-  located-good : (x : Message) (s : ℕ) → Ends (drop at frame) x s → read (drop at frame) ≡ good x s → Located frame at (span x (at + s))
+module _ (v : Version) (frame : List ℕ) (at : ℕ) (here : at ≤ length frame) where
+  located-good : (x : Message) (s : ℕ) → Ends (drop at frame) x s → read v (drop at frame) ≡ good x s → Located v frame at (span x (at + s))
   unfolding span
   located-good x s h e =
       let n = contentLength x in
@@ -116,10 +117,10 @@ module _ (frame : List ℕ) (at : ℕ) (here : at ≤ length frame) where
         within = omega arith;
       }
 
-  located-read : (r : Read) (m : Span) → Holds (drop at frame) r → read (drop at frame) ≡ r → answer at r ≡ Good m → Located frame at m
+  located-read : (r : Read) (m : Span) → Holds (drop at frame) r → read v (drop at frame) ≡ r → answer at r ≡ Good m → Located v frame at m
   unfolding answer
   located-read (bad q) m h e a = good-bad (sym a)
   located-read (good x s) m (holds h) e a = let b : span x (at + s) ≡ m = cc in rw b at (located-good x s h e)
 
-  pub located : (m : Span) → answer at (read (drop at frame)) ≡ Good m → Located frame at m
-  located m = located-read (read (drop at frame)) m (holds-read (drop at frame)) refl
+  pub located : (m : Span) → answer at (read v (drop at frame)) ≡ Good m → Located v frame at m
+  located m = located-read (read v (drop at frame)) m (holds-read v (drop at frame)) refl

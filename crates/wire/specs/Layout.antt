@@ -1,10 +1,12 @@
 -- Reading the message at the head of what remains of a frame (document 01, "Octets of a frame").
-use mathlib.Core.Bool.{Bool, true, cond}
+use mathlib.Core.Bool.{Bool, true, false, cond}
 use mathlib.Core.List.{List, [], _∷_}
 use Prim.Native.Nat.{ℕ, zero, suc, _+_, _*_, _%_}
 use lib.ListN.{length, getD, take, drop}
 use lib.Dec.{ltb, leb, eqb}
 use Rattle.octets.specs.Octets.{number}
+use Rattle.wire.specs.declared.Version.{Version}
+use Rattle.wire.specs.declared.Version.the-variants.{Draft00, Draft02}
 use Rattle.wire.specs.declared.Kind.{Kind}
 use Rattle.wire.specs.declared.Kind.the-variants.{Skipped, Bundle, Segment, End, Cancel}
 use Rattle.wire.specs.declared.Fault.the-variants.{ShortHeader, PastFrame, PastMessage, BadContent}
@@ -18,13 +20,33 @@ zeros [] = 0
 zeros (zero ∷ xs) = 1 + zeros xs
 zeros (suc x ∷ xs) = 0
 
--- Types 2 to 5 are read, all others passed over by their length.
-unfoldable pub kindOf : ℕ → Kind
-kindOf type = cond (eqb type 2) Bundle (cond (eqb type 3) Segment (cond (eqb type 4) End (cond (eqb type 5) Cancel Skipped)))
+-- ---- a header, by the draft: draft 02 (document 003) has flags, hints and a length of 20 bits; draft 00 (document 000, section 7) has none
+-- of these and a length of 24 bits, and its start, of type 3, stands for an end
 
--- the length field, 20 bits, of the header at the head
-unfoldable pub lengthField : List ℕ → ℕ
-lengthField xs = getD xs 1 0 % 16 * 65536 + getD xs 2 0 * 256 + getD xs 3 0
+abbrev pub third : Version → Kind
+third Draft00 = End
+third Draft02 = Segment
+
+abbrev pub fourth : Version → Kind
+fourth Draft00 = Segment
+fourth Draft02 = End
+
+-- Types 2 to 5 are read, all others passed over by their length.
+unfoldable pub kindOf : Version → ℕ → Kind
+kindOf v type = cond (eqb type 2) Bundle (cond (eqb type 3) (third v) (cond (eqb type 4) (fourth v) (cond (eqb type 5) Cancel Skipped)))
+
+-- of the second octet: the highest bits of the length, and whether hints follow; the reserved bits are ignored
+abbrev pub lengthTop : Version → ℕ → ℕ
+lengthTop Draft00 x = x
+lengthTop Draft02 x = x % 16
+
+abbrev pub hinted : Version → ℕ → Bool
+hinted Draft00 x = false
+hinted Draft02 x = leb 128 x
+
+-- the length field of the header at the head
+unfoldable pub lengthField : Version → List ℕ → ℕ
+lengthField v xs = lengthTop v (getD xs 1 0) * 65536 + getD xs 2 0 * 256 + getD xs 3 0
 
 -- What a chain of hints leaves of a message's octets, if it stays within them.
 pub data Chain : Type 0 where
@@ -83,19 +105,19 @@ body End c size = content End c size
 body Cancel c size = content Cancel c size
 
 -- a message with its header at the head, from the length that the header says
-unfoldable pub bodied : List ℕ → ℕ → Read
-bodied xs size = body (kindOf (getD xs 0 0)) (hints (leb 128 (getD xs 1 0)) (take size (drop 4 xs))) (4 + size)
+unfoldable pub bodied : Version → List ℕ → ℕ → Read
+bodied v xs size = body (kindOf v (getD xs 0 0)) (hints (hinted v (getD xs 1 0)) (take size (drop 4 xs))) (4 + size)
 
 -- The message with a header at the head, or the first refusal of 4 to 8 that applies. The reserved flag bits "MUST be ignored by the
 -- receiver" (document 003, section 7.1), in every type.
-unfoldable pub headed : List ℕ → Read
-headed xs =
+unfoldable pub headed : Version → List ℕ → Read
+headed v xs =
     cond (ltb (length xs) 4) (bad ShortHeader)
-    (cond (ltb (length xs) (4 + lengthField xs)) (bad PastFrame)
-    (bodied xs (lengthField xs)))
+    (cond (ltb (length xs) (4 + lengthField v xs)) (bad PastFrame)
+    (bodied v xs (lengthField v xs)))
 
 -- Nothing starts where no octet is left.
-unfoldable pub read : List ℕ → Read
-read [] = bad ShortHeader
-read (zero ∷ xs) = good skipped (1 + zeros xs)
-read (suc t ∷ xs) = headed (suc t ∷ xs)
+unfoldable pub read : Version → List ℕ → Read
+read v [] = bad ShortHeader
+read v (zero ∷ xs) = good skipped (1 + zeros xs)
+read v (suc t ∷ xs) = headed v (suc t ∷ xs)

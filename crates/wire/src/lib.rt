@@ -2,12 +2,20 @@
 ghost use mathlib.Core.Path.{_≡_};
 ghost use Prim.Native.Nat.{_+_, _≤_, _<_};
 ghost use lib.ListN.{length, drop};
+ghost use Rattle.wire.specs.declared.Version.the-variants.{Draft00, Draft02};
 ghost use Rattle.wire.specs.Message.{answer, faultNumber};
 ghost use Rattle.wire.specs.Layout.{zeros, kindOf, lengthField, chain, hints, left, walked, fitting, bodied, read};
+ghost use Rattle.wire.specs.Layout as Layout;
 ghost use Rattle.wire.specs.Frame.{checked, readingChecked};
 
 // The most octets of a frame.
 pub const FRAME_MAX: usize = 2048;
+
+// The drafts of the protocol: document 000, and document 003 as document 01 narrows it.
+pub enum Version {
+    Draft00,
+    Draft02,
+}
 
 pub enum Kind {
     Skipped,
@@ -76,9 +84,21 @@ fn zeros_end(frame: &[u8], at: usize) -> usize
     end
 }
 
-// Types 0, 1 and 6 to 255 are passed over.
-fn kind_of(code: u8) -> Kind
-    ensures { λ r. ⌜ r ≡ kindOf code ⌝ }
+// Document 000, section 7; the start, of type 3, stands for an end.
+fn kind_00(code: u8) -> Kind
+    ensures { λ r. ⌜ r ≡ kindOf Draft00 code ⌝ }
+{
+    match code {
+        2 => Kind::Bundle,
+        3 => Kind::End,
+        4 => Kind::Segment,
+        5 => Kind::Cancel,
+        _ => Kind::Skipped,
+    }
+}
+
+fn kind_02(code: u8) -> Kind
+    ensures { λ r. ⌜ r ≡ kindOf Draft02 code ⌝ }
 {
     match code {
         2 => Kind::Bundle,
@@ -89,13 +109,38 @@ fn kind_of(code: u8) -> Kind
     }
 }
 
-fn length_field(frame: &[u8], at: usize) -> usize
-    requires { ⌜ at + 4 ≤ length (now frame) ⌝ }
-    ensures { λ r. ⌜ r ≡ lengthField (drop at (now (frame .entry))) ⌝ }
+// Types 0, 1 and 6 to 255 are passed over. (Of constants alone the compiler makes a table for each draft.)
+fn kind_of(version: Version, code: u8) -> Kind
+    ensures { λ r. ⌜ r ≡ kindOf version code ⌝ }
 {
-    octets::octet_size(frame[at + 1] % 16) * 65536
+    match version {
+        Version::Draft00 => kind_00(code),
+        Version::Draft02 => kind_02(code),
+    }
+}
+
+// Whether hints follow a header, by its second octet.
+fn is_hinted(version: Version, octet: u8) -> bool
+    ensures { λ r. ⌜ r ≡ Layout.hinted version octet ⌝ }
+{
+    match version {
+        Version::Draft00 => false,
+        Version::Draft02 => 128 <= octet,
+    }
+}
+
+// Three octets, of which draft 02 has four bits for flags. (Cut at the end, since the next message waits for the length.)
+fn length_field(version: Version, frame: &[u8], at: usize) -> usize
+    requires { ⌜ at + 4 ≤ length (now frame) ⌝ }
+    ensures { λ r. ⌜ r ≡ lengthField version (drop at (now (frame .entry))) ⌝ }
+{
+    let n = octets::octet_size(frame[at + 1]) * 65536
         + octets::octet_size(frame[at + 2]) * 256
-        + octets::octet_size(frame[at + 3])
+        + octets::octet_size(frame[at + 3]);
+    match version {
+        Version::Draft00 => n,
+        Version::Draft02 => n % 1048576,
+    }
 }
 
 // Walks the hint chain at the start of s: one more than the octets that it leaves, or 0 where it runs past the end. (A number comes back
@@ -142,13 +187,13 @@ fn fits(kind: Kind, left: usize) -> bool
 }
 
 // The message at a position whose header says that size octets follow it, and they do.
-fn read_body(frame: &[u8], at: usize, size: usize) -> Reading
+fn read_body(version: Version, frame: &[u8], at: usize, size: usize) -> Reading
     requires { ⌜ at + 4 + size ≤ length (now frame) ⌝ }
-    ensures { λ r. ⌜ r ≡ answer at (bodied (drop at (now (frame .entry))) size) ⌝ }
+    ensures { λ r. ⌜ r ≡ answer at (bodied version (drop at (now (frame .entry))) size) ⌝ }
 {
     let start = at + 4;
     let end = start + size;
-    let kind = kind_of(frame[at]);
+    let kind = kind_of(version, frame[at]);
     if let Kind::Skipped = kind {
         return Reading::Good(Span {
             kind,
@@ -156,7 +201,7 @@ fn read_body(frame: &[u8], at: usize, size: usize) -> Reading
             end,
         });
     }
-    let h = after_hints(&frame[start..end], 128 <= frame[at + 1]);
+    let h = after_hints(&frame[start..end], is_hinted(version, frame[at + 1]));
     let Hints::Left(left) = h else {
         return Reading::Bad(Fault::PastMessage);
     };
@@ -171,9 +216,9 @@ fn read_body(frame: &[u8], at: usize, size: usize) -> Reading
 }
 
 // The message that starts at a position of the frame.
-pub fn read_message(frame: &[u8], at: usize) -> Reading
+pub fn read_message(version: Version, frame: &[u8], at: usize) -> Reading
     requires { ⌜ at < length (now frame) ⌝ }
-    ensures { λ r. ⌜ r ≡ answer at (read (drop at (now (frame .entry)))) ⌝ }
+    ensures { λ r. ⌜ r ≡ answer at (read version (drop at (now (frame .entry)))) ⌝ }
 {
     if frame[at] == 0 {
         let end = zeros_end(frame, at);
@@ -186,11 +231,11 @@ pub fn read_message(frame: &[u8], at: usize) -> Reading
     if frame.len() - at < 4 {
         return Reading::Bad(Fault::ShortHeader);
     }
-    let size = length_field(frame, at);
+    let size = length_field(version, frame, at);
     if frame.len() - at - 4 < size {
         return Reading::Bad(Fault::PastFrame);
     }
-    read_body(frame, at, size)
+    read_body(version, frame, at, size)
 }
 
 // What one reading says of its frame.
@@ -204,14 +249,14 @@ fn reading_checked(r: Reading, at: usize) -> Checked
 }
 
 // Reads every message of a frame of any length, and sees whether one starts at the place.
-pub fn check_frame(frame: &[u8], place: usize) -> Checked
-    ensures { λ r. ⌜ r ≡ checked read (now (frame .entry)) place ⌝ }
+pub fn check_frame(version: Version, frame: &[u8], place: usize) -> Checked
+    ensures { λ r. ⌜ r ≡ checked (read version) (now (frame .entry)) place ⌝ }
 {
     let mut at = 0;
     let mut seen = place == frame.len();
     while at < frame.len() {
         seen = seen | (at == place);
-        let r = read_message(frame, at);
+        let r = read_message(version, frame, at);
         let Reading::Good(m) = r else {
             return reading_checked(r, at);
         };

@@ -13,9 +13,10 @@ use btpu::raw::{
     PLAYED_BUNDLES, POOL, RECEIVER_IMAGE, RECORDED_FRAMES, RECORDED_OCTETS, SENDER_IMAGE,
 };
 use harness::baseline::{inplace, natural};
-use harness::generate::{self, BUNDLE};
-use harness::model::{interface, receiver, sender};
+use harness::generate::{self, Piece, BUNDLE};
+use harness::model::{interface, receiver, sender, Draft};
 use harness::random::Random;
+use harness::side::{Exported, Model, Side as _};
 
 const ROUNDS: usize = 31;
 const ROUND_SECONDS: f64 = 0.004;
@@ -46,7 +47,7 @@ impl Work {
 type Side<'a> = Box<dyn FnMut() -> Work + 'a>;
 
 /// A workload of three sides: exported, the model on its own state, the model behind an image; and of the
-/// baselines, for receiving calls.
+/// baselines, for receiving calls of draft 02.
 struct Workload<'a> {
     name: &'static str,
     exported: Side<'a>,
@@ -86,7 +87,7 @@ fn main() {
     let mut random = Random::new(1);
     let full = full_image(&mut random);
     let small_bundles = Reception::of(small_bundle_frames(&mut random, 4 * 170));
-    let small_pieces = Reception::of(small_piece_frames(&mut random, 8));
+    let small_pieces = Reception::of(small_piece_frames(&mut random, Draft::D02, 8));
     let large_pieces = Reception::of(large_piece_frames(&mut random));
     let passed = Reception::of(passed_frames(&mut random));
     let hints = Reception::of(hint_frames(&mut random));
@@ -107,6 +108,7 @@ fn main() {
     let large = bundles(&mut random, 16, 4096);
     let small = bundles(&mut random, 512, 60);
     let tiny = bundles(&mut random, 1024, 8);
+    let draft = Draft::D02;
     let workloads = [
         receiving("receive: bundles of 8 octets", &small_bundles),
         receiving(
@@ -125,10 +127,10 @@ fn main() {
         receiving("join: 64 pieces of 64 octets, in order", &rising),
         receiving("join: 64 pieces of 64 octets, in falling order", &falling),
         receiving("join: 64 pieces of 64 octets, in random order", &shuffled),
-        sending("place: 4,096 octets, frames of 2,048", 2048, &large),
-        sending("place: 4,096 octets, frames of 512", 512, &large),
-        sending("place: 60 octets, frames of 2,048", 2048, &small),
-        sending("place: 8 octets, frames of 128", 128, &tiny),
+        sending("place: 4,096 octets, frames of 2,048", draft, 2048, &large),
+        sending("place: 4,096 octets, frames of 512", draft, 512, &large),
+        sending("place: 60 octets, frames of 2,048", draft, 2048, &small),
+        sending("place: 8 octets, frames of 128", draft, 128, &tiny),
     ];
     println!(
         "{rounds} rounds; exported interface against the model in Rust (\"Rust\"), a receiver in place \
@@ -144,14 +146,38 @@ fn main() {
     for workload in workloads {
         measure(workload, rounds);
     }
+    measure_draft_00(rounds);
     measure_bursts(&mut random, rounds);
     measure_recordings(&mut random, rounds);
+}
+
+/// More rows: workloads of the table again, in draft 00.
+fn measure_draft_00(rounds: usize) {
+    let draft = Draft::D00;
+    let mut random = Random::new(2);
+    let pieces = Reception::in_draft(draft, small_piece_frames(&mut random, draft, 8));
+    let large = bundles(&mut random, 16, 4096);
+    let workloads = [
+        receiving(
+            "receive, draft 00: pieces of 4 octets, 8 transfers mixed",
+            &pieces,
+        ),
+        sending(
+            "place, draft 00: 4,096 octets, frames of 512",
+            draft,
+            512,
+            &large,
+        ),
+    ];
+    for workload in workloads {
+        measure(workload, rounds);
+    }
 }
 
 /// A table of its own: 64 frames in bursts.
 fn measure_bursts(random: &mut Random, rounds: usize) {
     let bundles = Reception::of(small_bundle_frames(random, BURST_FRAMES * 170));
-    let pieces = Reception::of(small_piece_frames(random, 17));
+    let pieces = Reception::of(small_piece_frames(random, Draft::D02, 17));
     let large = Reception::of([large_piece_frames(random), large_piece_frames(random)].concat());
     for reception in [&bundles, &pieces, &large] {
         assert_eq!(reception.frames.len(), BURST_FRAMES);
@@ -307,10 +333,14 @@ struct Reception {
 }
 
 impl Reception {
-    /// By a fresh board, each frame to its end.
+    /// By a fresh board of draft 02, each frame to its end.
     fn of(frames: Vec<Vec<u8>>) -> Reception {
+        Reception::in_draft(Draft::D02, frames)
+    }
+
+    fn in_draft(draft: Draft, frames: Vec<Vec<u8>>) -> Reception {
         let mut image = [0; RECEIVER_IMAGE];
-        assert_eq!(raw::receiver_start(&mut image), 0);
+        assert_eq!(Exported::receiver_start(draft, &mut image), 0);
         Reception {
             image,
             pool: vec![0; POOL],
@@ -323,8 +353,8 @@ impl Reception {
 /// The one call that completes a transfer, with all other pieces held in this order of arrival.
 fn join(random: &mut Random, order: Vec<u32>) -> Reception {
     let pieces = order.iter().map(|&index| {
-        let end = index as usize + 1 == order.len();
-        generate::piece(7, index, end, &[], &random.octets(64))
+        let piece = Piece::sent(Draft::D02, 7, index as usize, order.len());
+        piece.message(Draft::D02, &[], &random.octets(64))
     });
     let mut frames: Vec<Vec<u8>> = pieces.collect();
     let completing = frames.pop().expect("one at least");
@@ -348,7 +378,7 @@ fn join(random: &mut Random, order: Vec<u32>) -> Reception {
 
 /// All rows Open with as many pieces as they can hold while one is missing.
 fn full_image(random: &mut Random) -> [u8; RECEIVER_IMAGE] {
-    let mut state = receiver::State::start();
+    let mut state = receiver::State::start(Draft::D02);
     state.greatest = Some(100);
     for row in &mut state.rows {
         let mut indexes: Vec<u8> = (1..64).collect();
@@ -367,7 +397,7 @@ fn full_image(random: &mut Random) -> [u8; RECEIVER_IMAGE] {
 
 /// A board that has received, and has nothing under way.
 fn done_image() -> [u8; RECEIVER_IMAGE] {
-    let mut state = receiver::State::start();
+    let mut state = receiver::State::start(Draft::D02);
     state.greatest = Some(100);
     state.rows = [receiver::Row::empty(receiver::Phase::Done); receiver::ROWS];
     assert!(state.is_sound());
@@ -418,6 +448,7 @@ fn receiving<'a>(name: &'static str, reception: &'a Reception) -> Workload<'a> {
         }
     };
     let state = receiver::State::decode(&reception.image).expect("a state");
+    let has_baselines = state.draft == Draft::D02;
     let (pool, output) = lent(&reception.pool, MIN_OUTPUT);
     let own_state = move || {
         let mut work = Work::default();
@@ -450,7 +481,7 @@ fn receiving<'a>(name: &'static str, reception: &'a Reception) -> Workload<'a> {
                 interface::receive(image, pool, frame, place, output, result, &mut ())
             },
         )),
-        baselines: Some(Baselines {
+        baselines: has_baselines.then(|| Baselines {
             inplace: Box::new(through_image(inplace::receive)),
             natural: Box::new(natural_side(reception)),
         }),
@@ -490,7 +521,7 @@ fn natural_side(reception: &Reception) -> impl FnMut() -> Work + '_ {
 
 fn bursts<'a>(name: &'static str, reception: &'a Reception) -> BurstWorkload<'a> {
     let counts = reception.frames.iter().map(|frame| {
-        let count = generate::message_count(frame);
+        let count = generate::message_count(Draft::D02, frame);
         count.expect("a good frame")
     });
     let calls: u64 = counts.sum();
@@ -597,16 +628,21 @@ fn natural_burst_side(reception: &Reception) -> Side<'_> {
     })
 }
 
-fn sending<'a>(name: &'static str, frame_size: u64, bundles: &'a [Vec<u8>]) -> Workload<'a> {
+fn sending<'a>(
+    name: &'static str,
+    draft: Draft,
+    frame_size: u64,
+    bundles: &'a [Vec<u8>],
+) -> Workload<'a> {
     type Image = [u8; SENDER_IMAGE];
-    type Start = fn(&mut Image, u64, u32) -> u32;
+    type Start = fn(Draft, &mut Image, u64, u32) -> u32;
     type Call = fn(&mut Image, &[u8], &mut [u8], &mut [u64; 4]) -> u32;
     let through_image = move |start: Start, call: Call| {
         let mut frame = vec![0; frame_size as usize];
         move || {
             let mut work = Work::default();
             let mut image = [0; SENDER_IMAGE];
-            assert_eq!(start(&mut image, frame_size, 1), 0);
+            assert_eq!(start(draft, &mut image, frame_size, 1), 0);
             for bundle in bundles {
                 loop {
                     let mut result = [0; 4];
@@ -627,7 +663,7 @@ fn sending<'a>(name: &'static str, frame_size: u64, bundles: &'a [Vec<u8>]) -> W
     let mut frame = vec![0; frame_size as usize];
     let own_state = move || {
         let mut work = Work::default();
-        let mut state = sender::State::start(frame_size, 1).expect("a good frame size");
+        let mut state = sender::State::start(draft, frame_size, 1).expect("a good frame size");
         for bundle in bundles {
             loop {
                 let answer = state.place(bundle, &mut frame).expect("not refused");
@@ -644,9 +680,9 @@ fn sending<'a>(name: &'static str, frame_size: u64, bundles: &'a [Vec<u8>]) -> W
     };
     Workload {
         name,
-        exported: Box::new(through_image(raw::sender_start, raw::place)),
+        exported: Box::new(through_image(Exported::sender_start, raw::place)),
         own_state: Box::new(own_state),
-        image: Box::new(through_image(interface::sender_start, interface::place)),
+        image: Box::new(through_image(Model::sender_start, interface::place)),
         baselines: None,
     }
 }
@@ -744,17 +780,17 @@ fn small_bundle_frames(random: &mut Random, count: usize) -> Vec<Vec<u8>> {
     packed((0..count).map(|_| generate::message(BUNDLE, &[], &random.octets(8))))
 }
 
-fn small_piece_frames(random: &mut Random, groups: u32) -> Vec<Vec<u8>> {
+fn small_piece_frames(random: &mut Random, draft: Draft, groups: u32) -> Vec<Vec<u8>> {
     const TOGETHER: u32 = 8;
-    const PIECES: u32 = 60;
+    const PIECES: usize = 60;
     let mut messages = Vec::new();
     for group in 0..groups {
         let mut own = Vec::new();
-        for index in 0..PIECES {
+        for place in 0..PIECES {
             for transfer in 0..TOGETHER {
                 let number = group * TOGETHER + transfer;
-                let end = index + 1 == PIECES;
-                own.push(generate::piece(number, index, end, &[], &random.octets(4)));
+                let piece = Piece::sent(draft, number, place, PIECES);
+                own.push(piece.message(draft, &[], &random.octets(4)));
             }
         }
         messages.extend(generate::disorder(random, own, 40));
@@ -765,19 +801,25 @@ fn small_piece_frames(random: &mut Random, groups: u32) -> Vec<Vec<u8>> {
 fn large_piece_frames(random: &mut Random) -> Vec<Vec<u8>> {
     packed((0..32).map(|at| {
         let data = random.octets(FRAME - 12);
-        generate::piece(at / 2, at % 2, at % 2 == 1, &[], &data)
+        let piece = Piece::sent(Draft::D02, at / 2, at as usize % 2, 2);
+        piece.message(Draft::D02, &[], &data)
     }))
 }
 
 fn passed_frames(random: &mut Random) -> Vec<Vec<u8>> {
-    packed((0..2_000).map(|_| generate::passed(random, 12)))
+    packed((0..2_000).map(|_| generate::passed(random, Draft::D02, 12)))
 }
 
 /// Segments of a few transfers, all behind chains of hints; nothing is completed.
 fn hint_frames(random: &mut Random) -> Vec<Vec<u8>> {
     packed((0..512).map(|at| {
         let hints = [0x01, 2, 7, 7, 0x03, 0, 0x04, 4, 1, 2, 3, 4];
-        generate::piece(at % 8, 1 + at / 8 % 60, false, &hints, &random.octets(4))
+        let piece = Piece {
+            number: at % 8,
+            index: 1 + at / 8 % 60,
+            end: false,
+        };
+        piece.message(Draft::D02, &hints, &random.octets(4))
     }))
 }
 

@@ -1,4 +1,4 @@
-//! The scenarios of the differential test for a given time or number of calls.
+//! The scenarios of the differential test, in both drafts, for a given time or number of calls.
 //!
 //!     soak calls NUMBER [SEED]
 //!     soak seconds NUMBER [SEED]
@@ -8,6 +8,7 @@ use std::process::ExitCode;
 use std::time::{Duration, Instant};
 
 use harness::coverage::Coverage;
+use harness::model::Draft;
 use harness::scenario::{self, SCENARIOS};
 
 const PROGRESS: Duration = Duration::from_secs(10);
@@ -74,9 +75,11 @@ fn soak(by_calls: bool, amount: u64, seed: u64) {
         println!("{count:>12} {case}");
     }
     println!(
-        "seed {seed}: {} calls in {} scenarios agree, {:.1} s",
+        "seed {seed}: {} calls in {} scenarios agree, {} with states of draft 00, {} of draft 02, {:.1} s",
         coverage.calls(),
         coverage.scenarios,
+        coverage.of(Draft::D00).calls(),
+        coverage.of(Draft::D02).calls(),
         begin.elapsed().as_secs_f64()
     );
 }

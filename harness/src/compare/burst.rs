@@ -27,6 +27,8 @@ pub struct Taken {
 
 /// The memory of one burst on both sides, besides image and pool.
 struct Bursting {
+    sizes: Lent<u16>,
+    octets: Lent,
     output: Both<u8>,
     lengths: Both<u16>,
     numbers: Both<u64>,
@@ -40,10 +42,12 @@ fn array<T, const LENGTH: usize>(list: &mut [T]) -> &mut [T; LENGTH] {
 }
 
 impl Bursting {
-    fn new(trial: &mut Trial, output: usize) -> Bursting {
+    fn new(trial: &mut Trial, burst: &Burst) -> Bursting {
         let random = &mut trial.random;
         Bursting {
-            output: Both::new(random.octets(output)),
+            sizes: Lent::new(burst.sizes),
+            octets: Lent::new(burst.octets),
+            output: Both::new(random.octets(burst.output)),
             lengths: Both::new(shorts(random, BURST_BUNDLES)),
             numbers: Both::new((0..BURST_BUNDLES).map(|_| random.draw()).collect()),
             places: Both::new(words(random, BURST_FRAMES)),
@@ -64,18 +68,21 @@ impl Bursting {
         (bundles, notes)
     }
 
-    fn exported(&mut self) -> (BurstBundles<'_>, BurstNotes<'_>) {
+    fn exported(&mut self) -> ((&[u16], &[u8]), BurstBundles<'_>, BurstNotes<'_>) {
+        let frames = (self.sizes.get(), self.octets.get());
         let bundles = (
             self.output.exported.lend(),
             self.lengths.exported.array(),
             self.numbers.exported.array(),
         );
         let notes = (self.places.exported.array(), self.reasons.exported.array());
-        (bundles, notes)
+        (frames, bundles, notes)
     }
 
     /// Checks the memory after a call that wrote so many entries to the front of each list.
-    fn check(&self, trial: &Trial, [bundles, octets, refused]: [usize; 3]) {
+    fn check(&self, trial: &Trial, burst: &Burst, [bundles, octets, refused]: [usize; 3]) {
+        trial.untouched(burst.sizes, &self.sizes, "sizes");
+        trial.untouched(burst.octets, &self.octets, "octets");
         self.output.check(trial, octets, "output");
         self.lengths.check(trial, bundles, "lengths");
         self.numbers.check(trial, bundles, "numbers");
@@ -110,40 +117,40 @@ impl ReceiverPair {
     pub fn receive_burst(&mut self, trial: &mut Trial, burst: Burst) -> Result<Taken, u32> {
         trial.calls += 1;
         trial.coverage.burst_calls += 1;
+        let draft = self.draft();
         let lent = [(); BURST_RESULT].map(|_| trial.random.draw());
-        let mut memory = Bursting::new(trial, burst.output);
-        let sizes = Lent::new(burst.sizes);
-        let octets = Lent::new(burst.octets);
+        let mut memory = Bursting::new(trial, &burst);
         let (mut result, mut exported_result) = (lent, lent);
         let (bundles, notes) = memory.model();
         let (image, pool, from) = (&mut self.image, &mut self.pool, burst.from);
         let frames = (burst.sizes, burst.octets);
         let returned =
             interface::receive_burst(image, pool, frames, from, bundles, notes, &mut result);
-        let (bundles, notes) = memory.exported();
+        let (frames, bundles, notes) = memory.exported();
         let exported = raw::receive_burst(
             self.exported_image.array(),
             self.exported_pool.lend(),
-            (sizes.get(), octets.get()),
+            frames,
             burst.from,
             bundles,
             notes,
             &mut exported_result,
         );
-        let number = trial.same_answer((returned, result), (exported, exported_result));
-        trial.untouched(burst.sizes, &sizes, "sizes");
-        trial.untouched(burst.octets, &octets, "octets");
+        let number = trial.same_answer(draft, (returned, result), (exported, exported_result));
         self.after_burst(trial, number);
         if number != 0 {
             trial.check(result == lent, "result of a refused call");
-            memory.check(trial, [0; 3]);
+            memory.check(trial, &burst, [0; 3]);
             return Err(number);
         }
         let [count, octets, frame, _, refused] = result.map(|entry| entry as usize);
-        memory.check(trial, [count, octets, refused]);
-        let stopped = frame < burst.sizes.len();
-        trial.coverage.bursts[usize::from(stopped)] += 1;
-        Ok(memory.taken(trial, result))
+        memory.check(trial, &burst, [count, octets, refused]);
+        let taken = memory.taken(trial, result);
+        if let Some(draft) = draft {
+            let cases = trial.coverage.of_mut(draft);
+            cases.taken(&taken, frame < burst.sizes.len());
+        }
+        Ok(taken)
     }
 
     /// Compares image and pool, which stay where the call was refused.

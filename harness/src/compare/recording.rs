@@ -1,7 +1,7 @@
 //! Recordings written, opened and played on both sides at once.
 
 use super::{Lent, Trial};
-use crate::model::interface;
+use crate::model::{interface, Draft};
 use crate::random::Random;
 use btpu::raw::{self, PLAYED_BUNDLES, POOL, RECORDED_FRAMES, RECORDED_OCTETS};
 
@@ -130,7 +130,7 @@ impl Playing {
             (&mut self.output.model, &mut self.lengths.model),
             (&mut self.places.model, &mut self.reasons.model),
             result,
-            trial.coverage,
+            trial.coverage.of_mut(Draft::D02),
         )
     }
 
@@ -191,7 +191,7 @@ impl Trial<'_> {
             output.exported.lend(),
             &mut exported_result,
         );
-        let number = self.same_answer((returned, result), (exported, exported_result));
+        let number = self.same_answer(None, (returned, result), (exported, exported_result));
         self.untouched(sizes, &lent_sizes, "sizes");
         self.untouched(octets, &lent_octets, "octets");
         if number != 0 {
@@ -226,7 +226,7 @@ impl Trial<'_> {
             sizes.exported.array(),
             &mut exported_result,
         );
-        let number = self.same_answer((returned, result), (exported, exported_result));
+        let number = self.same_answer(None, (returned, result), (exported, exported_result));
         self.untouched(recording, &lent_recording, "recording");
         if number != 0 {
             self.check(result == lent, "result of a refused call");
@@ -262,7 +262,7 @@ impl Trial<'_> {
         let (mut result, mut exported_result) = (lent, lent);
         let returned = playing.model(self, recording, limit, &mut result);
         let exported = playing.exported(limit, &mut exported_result);
-        let number = self.same_answer((returned, result), (exported, exported_result));
+        let number = self.same_answer(None, (returned, result), (exported, exported_result));
         self.untouched(recording, &playing.recording, "recording");
         if number != 0 {
             self.check(result == lent, "result of a refused call");

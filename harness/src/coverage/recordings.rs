@@ -1,8 +1,10 @@
 //! Counts of the cases that calls for recordings have reached.
 
+use super::named;
 use crate::compare::Played;
 use crate::generate::message_count;
 use crate::model::recording::Recording;
+use crate::model::Draft;
 use btpu::raw::{PLAYED_BUNDLES, RECORDED_FRAMES, RECORDED_OCTETS};
 
 const RECORD_REFUSED: [&str; 7] = [
@@ -147,12 +149,6 @@ impl Recordings {
     }
 }
 
-fn named(what: &str, names: &[&str], counts: &[u64]) -> Vec<(String, u64)> {
-    assert_eq!(names.len(), counts.len());
-    let names = names.iter().map(|name| format!("{what}: {name}"));
-    names.zip(counts.iter().copied()).collect()
-}
-
 fn first_bad(mut sizes: impl Iterator<Item = u16>) -> Option<u16> {
     sizes.find(|size| !(1..=2048).contains(size))
 }
@@ -196,7 +192,9 @@ fn stop(recording: &Recording, limit: u64) -> usize {
         return 0;
     }
     let mut left = limit;
-    let mut counts = recording.frames().map(message_count);
+    let mut counts = recording
+        .frames()
+        .map(|frame| message_count(Draft::D02, frame));
     while let Some(count) = counts.next() {
         let Some(count) = count else {
             continue;

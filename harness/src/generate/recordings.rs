@@ -2,24 +2,13 @@
 
 use super::{
     bundle_length, damage_frame, disorder, fill_up, first_number, frame_size, honest_messages,
-    hostile_frame, hostile_message, message, pack, piece, random_frame, with_reserved_bits, BUNDLE,
+    hostile_frame, hostile_message, message, pack, random_frame, with_reserved_bits, Piece, BUNDLE,
     MAX_FRAME,
 };
 use crate::model::sender::{Answer, State};
-use crate::model::wire;
+use crate::model::Draft;
 use crate::random::Random;
 use btpu::raw::{RECORDED_FRAMES, RECORDED_OCTETS};
-
-/// The number of messages of a frame, or nothing if it is malformed.
-pub fn message_count(frame: &[u8]) -> Option<u64> {
-    let mut count = 0;
-    let mut at = 0;
-    while at < frame.len() {
-        at = wire::read(frame, at).ok()?.1;
-        count += 1;
-    }
-    Some(count)
-}
 
 /// The frames' lengths and their octets one behind the other.
 pub fn joined(frames: &[Vec<u8>]) -> (Vec<u16>, Vec<u8>) {
@@ -43,11 +32,12 @@ pub fn recorded(frames: &[Vec<u8>]) -> Vec<u8> {
 }
 
 /// The frames of a sender that places some bundles.
-fn sent_frames(random: &mut Random) -> Vec<Vec<u8>> {
+pub fn sent_frames(random: &mut Random, draft: Draft) -> Vec<Vec<u8>> {
     let size = frame_size(random);
     let mut frame = random.octets(size);
     let mut frames = Vec::new();
-    let mut state = State::start(size as u64, first_number(random)).expect("a good frame size");
+    let first = first_number(random);
+    let mut state = State::start(draft, size as u64, first).expect("a good frame size");
     for _ in 0..random.within(1, 8) {
         let length = bundle_length(random).max(1);
         let bundle = random.octets(length);
@@ -67,28 +57,28 @@ fn sent_frames(random: &mut Random) -> Vec<Vec<u8>> {
     frames
 }
 
-fn hostile_frames(random: &mut Random) -> Vec<Vec<u8>> {
+fn hostile_frames(random: &mut Random, draft: Draft) -> Vec<Vec<u8>> {
     let greatest = Some(first_number(random));
     let count = random.within(1, 12);
     (0..count)
-        .map(|_| hostile_frame(random, greatest))
+        .map(|_| hostile_frame(random, draft, greatest))
         .collect()
 }
 
-fn honest_frames(random: &mut Random) -> Vec<Vec<u8>> {
+fn honest_frames(random: &mut Random, draft: Draft) -> Vec<Vec<u8>> {
     let transfers = random.within(1, 12);
-    let messages = honest_messages(random, transfers);
+    let messages = honest_messages(random, draft, transfers);
     let size = random.pick(&[60, 200, 1000, MAX_FRAME]);
     pack(random, &messages, size)
 }
 
 /// Frames for a recording: honest, a sender's, hostile, malformed and random ones mixed.
-pub fn recorded_frames(random: &mut Random) -> Vec<Vec<u8>> {
+pub fn recorded_frames(random: &mut Random, draft: Draft) -> Vec<Vec<u8>> {
     let mut frames = match random.below(8) {
-        0..=2 => honest_frames(random),
-        3..=4 => sent_frames(random),
-        5..=6 => hostile_frames(random),
-        _ => [honest_frames(random), hostile_frames(random)].concat(),
+        0..=2 => honest_frames(random, draft),
+        3..=4 => sent_frames(random, draft),
+        5..=6 => hostile_frames(random, draft),
+        _ => [honest_frames(random, draft), hostile_frames(random, draft)].concat(),
     };
     for _ in 0..random.below(4) {
         let at = random.below(frames.len() + 1);
@@ -97,9 +87,9 @@ pub fn recorded_frames(random: &mut Random) -> Vec<Vec<u8>> {
     let damaged = random.pick(&[3, 8, usize::MAX]);
     for frame in &mut frames {
         if !frame.is_empty() && random.once_in(damaged) {
-            damage_frame(random, frame);
+            damage_frame(random, draft, frame);
         }
-        if random.once_in(12) {
+        if draft == Draft::D02 && random.once_in(12) {
             *frame = with_reserved_bits(random, frame).0;
         }
     }
@@ -108,12 +98,12 @@ pub fn recorded_frames(random: &mut Random) -> Vec<Vec<u8>> {
 }
 
 /// A few short frames, so that a recording can be tried in many ways.
-pub fn small_frames(random: &mut Random) -> Vec<Vec<u8>> {
+pub fn small_frames(random: &mut Random, draft: Draft) -> Vec<Vec<u8>> {
     let mut greatest = Some(first_number(random));
     let mut frames: Vec<Vec<u8>> = (0..random.below(6))
         .map(|_| {
             let count = random.within(1, 3);
-            let messages = (0..count).map(|_| hostile_message(random, &mut greatest));
+            let messages = (0..count).map(|_| hostile_message(random, draft, &mut greatest));
             let short = messages.filter(|message| message.len() <= 30);
             short.collect::<Vec<_>>().concat()
         })
@@ -122,7 +112,7 @@ pub fn small_frames(random: &mut Random) -> Vec<Vec<u8>> {
         if frame.is_empty() {
             frame.push(random.pick(&[0, 2]));
         } else if random.once_in(5) {
-            damage_frame(random, frame);
+            damage_frame(random, draft, frame);
         }
     }
     within_limits(frames)
@@ -140,14 +130,14 @@ fn within_limits(mut frames: Vec<Vec<u8>>) -> Vec<Vec<u8>> {
     frames
 }
 
-/// Recordings as full as they can be, in one of some ways.
+/// Recordings as full as they can be, in one of some ways, of frames of draft 02.
 pub fn full_frames(random: &mut Random) -> Vec<Vec<u8>> {
     match random.below(4) {
         0 => {
             // 60 octets for each of 1,024 frames, refused where a message does not fit.
             let mut greatest = Some(first_number(random));
             let frame = |_| {
-                let mut frame = hostile_message(random, &mut greatest);
+                let mut frame = hostile_message(random, Draft::D02, &mut greatest);
                 frame.resize(RECORDED_OCTETS / RECORDED_FRAMES, 0);
                 frame
             };
@@ -179,8 +169,9 @@ fn full_transfers(random: &mut Random) -> Vec<Vec<u8>> {
             let number = first.wrapping_add(at as u32 / 2);
             let length = random.within(1900, MAX_FRAME - 12);
             let data = random.octets(length);
-            let mut frame = piece(number, at as u32 % 2, at % 2 == 1, &[], &data);
-            fill_up(random, &mut frame);
+            let piece = Piece::sent(Draft::D02, number, at % 2, 2);
+            let mut frame = piece.message(Draft::D02, &[], &data);
+            fill_up(random, Draft::D02, &mut frame);
             frame
         })
         .collect();

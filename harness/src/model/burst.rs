@@ -1,5 +1,6 @@
 //! A burst: many frames in one call.
 
+use super::draft::{Draft, Layout, Layout00, Layout02};
 use super::interface::NO_NUMBER;
 use super::receiver::{self, State, MIN_OUTPUT, POOL};
 use super::{wire, Refusal};
@@ -50,7 +51,7 @@ pub fn receive_burst(
         return Err(Refusal::OctetCount);
     }
     let frames = cut(sizes, octets);
-    if !is_good_start(&frames, first, place) {
+    if !is_good_start(state.draft, &frames, first, place) {
         return Err(Refusal::BadPlace);
     }
     let mut burst = Burst {
@@ -75,13 +76,13 @@ fn cut<'a>(sizes: &[u16], mut octets: &'a [u8]) -> Vec<&'a [u8]> {
 }
 
 /// A frame that a single call refuses for itself is a good start with any place.
-fn is_good_start(frames: &[&[u8]], first: u64, place: u64) -> bool {
+fn is_good_start(draft: Draft, frames: &[&[u8]], first: u64, place: u64) -> bool {
     let count = frames.len() as u64;
     if first >= count {
         return first == count && place == 0;
     }
     let frame = frames[first as usize];
-    receiver::check_frame(frame, place) != Err(Refusal::BadPlace)
+    receiver::check_frame(draft, frame, place) != Err(Refusal::BadPlace)
 }
 
 struct Burst<'a> {
@@ -96,9 +97,11 @@ impl Burst<'_> {
     /// The answer is where the next call goes on.
     fn take_all(&mut self, frames: &[&[u8]], first: usize, mut place: usize) -> (usize, usize) {
         for (number, frame) in frames.iter().enumerate().skip(first) {
-            let stopped = match receiver::check_frame(frame, place as u64) {
-                Ok(()) => self.take(frame, place),
-                Err(refusal) => self.note(number, refusal),
+            let draft = self.state.draft;
+            let stopped = match (receiver::check_frame(draft, frame, place as u64), draft) {
+                (Ok(()), Draft::D00) => self.take::<Layout00>(frame, place),
+                (Ok(()), Draft::D02) => self.take::<Layout02>(frame, place),
+                (Err(refusal), _) => self.note(number, refusal),
             };
             if let Some(place) = stopped {
                 return (number, place);
@@ -115,13 +118,13 @@ impl Burst<'_> {
     }
 
     /// Treats the messages of a frame that was checked; the answer is where it stopped before the end.
-    fn take(&mut self, frame: &[u8], place: usize) -> Option<usize> {
+    fn take<L: Layout>(&mut self, frame: &[u8], place: usize) -> Option<usize> {
         let mut at = place;
         while at < frame.len() {
             if self.is_full() {
                 return Some(at);
             }
-            let Ok((message, next)) = wire::read(frame, at) else {
+            let Ok((message, next)) = wire::read::<L>(frame, at) else {
                 unreachable!("the whole frame was checked");
             };
             let room = &mut self.bundles.0[self.taken.octets..];

@@ -1,5 +1,6 @@
 //! The octet images of the states.
 
+use super::draft::Draft;
 use super::receiver::{self, Phase, Row, MAX_PIECES, ROWS};
 use super::sender::{self, Transfer};
 
@@ -11,13 +12,13 @@ impl receiver::State {
     /// Nothing for an image that is no state or holds an entry without meaning that is not zero.
     pub fn decode(image: &[u8; RECEIVER]) -> Option<receiver::State> {
         let (head, rows) = image.split_first_chunk::<8>()?;
-        if head[1..4] != [0; 3] {
+        if head[1] != 0 || head[3] != 0 {
             return None;
         }
         let greatest = u32::from_be_bytes([head[4], head[5], head[6], head[7]]);
         let mut state = receiver::State {
             greatest: optional(head[0], greatest)?,
-            ..receiver::State::start()
+            ..receiver::State::start(Draft::of_octet(head[2])?)
         };
         for (row, octets) in state.rows.iter_mut().zip(rows.chunks_exact(ROW)) {
             decode_row(row, octets)?;
@@ -29,6 +30,7 @@ impl receiver::State {
         let (head, rows) = image.split_at_mut(8);
         head.fill(0);
         head[0] = self.greatest.is_some().into();
+        head[2] = self.draft.octet();
         head[4..].copy_from_slice(&self.greatest.unwrap_or(0).to_be_bytes());
         for (row, octets) in self.rows.iter().zip(rows.chunks_exact_mut(ROW)) {
             encode_row(row, octets);
@@ -97,10 +99,11 @@ impl sender::State {
             }),
             _ => return None,
         };
-        if image[9..12] != [0; 3] {
+        if image[10..12] != [0; 2] {
             return None;
         }
         Some(sender::State {
+            draft: Draft::of_octet(image[9])?,
             frame_size: two(0),
             fill: two(2),
             next_number: four(4),
@@ -113,6 +116,7 @@ impl sender::State {
         image[0..2].copy_from_slice(&self.frame_size.to_be_bytes());
         image[2..4].copy_from_slice(&self.fill.to_be_bytes());
         image[4..8].copy_from_slice(&self.next_number.to_be_bytes());
+        image[9] = self.draft.octet();
         if let Some(transfer) = self.begun {
             image[8] = 1;
             image[12..16].copy_from_slice(&transfer.number.to_be_bytes());

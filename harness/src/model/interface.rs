@@ -1,6 +1,7 @@
 //! The model behind the same interface as the exported library: images in, numbers out.
 
 use super::burst;
+use super::draft::Draft;
 use super::playback::{self, Bundles, Notes};
 use super::receiver::{self, Observer};
 use super::recording::{self, Recording, MAX_FRAMES};
@@ -11,7 +12,12 @@ use super::{image, Refusal};
 pub const NO_NUMBER: u64 = 1 << 32;
 
 pub fn receiver_start(image: &mut [u8; image::RECEIVER]) -> u32 {
-    receiver::State::start().encode(image);
+    receiver::State::start(Draft::D02).encode(image);
+    0
+}
+
+pub fn receiver_start_00(image: &mut [u8; image::RECEIVER]) -> u32 {
+    receiver::State::start(Draft::D00).encode(image);
     0
 }
 
@@ -84,7 +90,20 @@ pub fn receive_burst(
 }
 
 pub fn sender_start(image: &mut [u8; image::SENDER], frame_size: u64, first_number: u32) -> u32 {
-    match sender::State::start(frame_size, first_number) {
+    start_sender(Draft::D02, image, frame_size, first_number)
+}
+
+pub fn sender_start_00(image: &mut [u8; image::SENDER], frame_size: u64, first_number: u32) -> u32 {
+    start_sender(Draft::D00, image, frame_size, first_number)
+}
+
+fn start_sender(
+    draft: Draft,
+    image: &mut [u8; image::SENDER],
+    frame_size: u64,
+    first_number: u32,
+) -> u32 {
+    match sender::State::start(draft, frame_size, first_number) {
         Ok(state) => {
             state.encode(image);
             0

@@ -1,5 +1,6 @@
-//! Playback of a recording on a fresh receiver.
+//! Playback of a recording on a fresh receiver of draft 02.
 
+use super::draft::{Draft, Layout02};
 use super::receiver::{Observer, State, POOL};
 use super::recording::{Recording, MAX_FRAMES, MAX_OCTETS};
 use super::{wire, Refusal};
@@ -44,7 +45,7 @@ pub fn play(
         return Err(Refusal::OutputTooShort);
     }
     let mut player = Player {
-        state: State::start(),
+        state: State::start(Draft::D02),
         pool,
         bundles,
         played: Played::default(),
@@ -53,7 +54,7 @@ pub fn play(
         if player.played.messages == limit {
             break;
         }
-        match wire::check(frame, 0) {
+        match wire::check(Draft::D02, frame, 0) {
             Ok(_) => player.take(frame, limit, observer),
             Err((fault, at)) => {
                 places[player.played.refused] = place as u32;
@@ -78,7 +79,7 @@ impl Player<'_> {
         let (output, lengths) = &mut self.bundles;
         let mut at = 0;
         while at < frame.len() && self.played.messages < limit {
-            let Ok((message, next)) = wire::read(frame, at) else {
+            let Ok((message, next)) = wire::read::<Layout02>(frame, at) else {
                 unreachable!("the whole frame was checked");
             };
             let room = &mut output[self.played.octets..];

@@ -1,5 +1,6 @@
 //! The receiving side: window, rows and the receiving call.
 
+use super::draft::{Draft, Layout, Layout00, Layout02};
 use super::wire::{self, Message, Piece};
 use super::Refusal;
 
@@ -22,6 +23,7 @@ pub enum Phase {
 #[derive(Clone, Copy, Debug, PartialEq, Eq)]
 pub struct Row {
     pub phase: Phase,
+    /// The final index, once an end has told it, or in draft 00 a start.
     pub last: Option<u8>,
     pub held: u8,
     pub index: [u8; MAX_PIECES],
@@ -30,6 +32,7 @@ pub struct Row {
 
 #[derive(Clone, Debug, PartialEq, Eq)]
 pub struct State {
+    pub draft: Draft,
     pub greatest: Option<u32>,
     pub rows: [Row; ROWS],
 }
@@ -79,7 +82,8 @@ pub enum Step {
 /// What tests may want to see of a call. The empty observer costs nothing.
 pub trait Observer {
     fn distance(&mut self, _case: Distance, _difference: u32, _number: u32) {}
-    fn step(&mut self, _step: Step) {}
+    /// `end` says whether the piece carries the final index.
+    fn step(&mut self, _step: Step, _end: bool) {}
     fn cancel(&mut self, _before: Phase) {}
     /// A bundle is joined from pieces that came in this order, with these indexes and lengths.
     fn join(&mut self, _indexes: &[u8], _lengths: &[u16]) {}
@@ -171,6 +175,7 @@ impl Row {
 
     fn take(
         &mut self,
+        draft: Draft,
         cell: &mut [u8],
         piece: &Piece,
         output: &mut [u8],
@@ -208,15 +213,16 @@ impl Row {
         // The indexes held are different and none is above the last one, so their count decides.
         if self.last.is_some_and(|last| self.held == last + 1) {
             observer.join(self.indexes(), &self.length[..usize::from(self.held)]);
-            self.join(cell, output);
+            self.join(draft, cell, output);
             *self = Row::empty(Phase::Done);
             return Step::Completed(after);
         }
         Step::Stored
     }
 
-    /// Joins the pieces in rising order of index; every index below `held` must be held.
-    fn join(&self, cell: &[u8], output: &mut [u8]) {
+    /// Joins the pieces in rising order of index, in draft 00 in falling order; every index below `held`
+    /// must be held.
+    fn join(&self, draft: Draft, cell: &[u8], output: &mut [u8]) {
         let mut piece_at = [(0, 0); MAX_PIECES];
         let mut from = 0;
         for (&index, &length) in self.indexes().iter().zip(&self.length) {
@@ -224,8 +230,12 @@ impl Row {
             piece_at[usize::from(index)] = (from, to);
             from = to;
         }
+        let pieces = &mut piece_at[..usize::from(self.held)];
+        if draft == Draft::D00 {
+            pieces.reverse();
+        }
         let mut filled = 0;
-        for &(from, to) in &piece_at[..usize::from(self.held)] {
+        for &(from, to) in &*pieces {
             output[filled..filled + to - from].copy_from_slice(&cell[from..to]);
             filled += to - from;
         }
@@ -233,8 +243,9 @@ impl Row {
 }
 
 impl State {
-    pub const fn start() -> State {
+    pub const fn start(draft: Draft) -> State {
         State {
+            draft,
             greatest: None,
             rows: [Row::empty(Phase::Free); ROWS],
         }
@@ -295,14 +306,39 @@ impl State {
             Message::Piece(piece) => {
                 let row = self.enter(piece.number, observer)?;
                 let cell = &mut pool[CELL * row..CELL * (row + 1)];
-                let step = self.rows[row].take(cell, &piece, output, observer);
-                observer.step(step);
+                let step = self.rows[row].take(self.draft, cell, &piece, output, observer);
+                observer.step(step, piece.end);
                 if let Step::Completed(length) = step {
                     return Some((length, Some(piece.number)));
                 }
             }
         }
         None
+    }
+
+    /// Treats messages of a frame that was checked, up to the first bundle handed out.
+    fn take<L: Layout>(
+        &mut self,
+        pool: &mut [u8],
+        frame: &[u8],
+        mut at: usize,
+        output: &mut [u8],
+        observer: &mut impl Observer,
+    ) -> Answer {
+        while at < frame.len() {
+            let Ok((message, next)) = wire::read::<L>(frame, at) else {
+                unreachable!("the whole frame was checked");
+            };
+            if let Some((length, number)) = self.treat(message, pool, output, observer) {
+                return Answer::Bundle {
+                    length,
+                    next,
+                    number,
+                };
+            }
+            at = next;
+        }
+        Answer::Finished
     }
 }
 
@@ -318,11 +354,11 @@ pub fn distance(difference: u32) -> Distance {
 
 /// What the receiving call refuses of a frame, and of a place in it.
 #[inline]
-pub fn check_frame(frame: &[u8], place: u64) -> Result<(), Refusal> {
+pub fn check_frame(draft: Draft, frame: &[u8], place: u64) -> Result<(), Refusal> {
     if frame.is_empty() || frame.len() > wire::MAX_FRAME {
         return Err(Refusal::FrameLength);
     }
-    match wire::check(frame, place) {
+    match wire::check(draft, frame, place) {
         Ok(true) => Ok(()),
         Ok(false) => Err(Refusal::BadPlace),
         Err((fault, at)) => Err(Refusal::Malformed(fault, at)),
@@ -344,20 +380,10 @@ pub fn receive(
     if pool.len() != POOL || output.len() < MIN_OUTPUT {
         return Err(Refusal::PoolOrOutputSize);
     }
-    check_frame(frame, place)?;
-    let mut at = place as usize;
-    while at < frame.len() {
-        let Ok((message, next)) = wire::read(frame, at) else {
-            unreachable!("the whole frame was checked");
-        };
-        if let Some((length, number)) = state.treat(message, pool, output, observer) {
-            return Ok(Answer::Bundle {
-                length,
-                next,
-                number,
-            });
-        }
-        at = next;
-    }
-    Ok(Answer::Finished)
+    check_frame(state.draft, frame, place)?;
+    let at = place as usize;
+    Ok(match state.draft {
+        Draft::D00 => state.take::<Layout00>(pool, frame, at, output, observer),
+        Draft::D02 => state.take::<Layout02>(pool, frame, at, output, observer),
+    })
 }

@@ -1,5 +1,6 @@
 //! The sending side: one frame being filled, and at most one transfer begun.
 
+use super::draft::Draft;
 use super::Refusal;
 
 pub const MIN_FRAME: usize = 128;
@@ -13,8 +14,6 @@ const CANCEL_LENGTH: usize = 8;
 
 const PADDING: u8 = 1;
 const BUNDLE: u8 = 2;
-const SEGMENT: u8 = 3;
-const END: u8 = 4;
 const CANCEL: u8 = 5;
 
 #[derive(Clone, Copy, Debug, PartialEq, Eq)]
@@ -27,6 +26,7 @@ pub struct Transfer {
 
 #[derive(Clone, Copy, Debug, PartialEq, Eq)]
 pub struct State {
+    pub draft: Draft,
     pub frame_size: u16,
     pub fill: u16,
     pub next_number: u32,
@@ -42,11 +42,12 @@ pub enum Answer {
 }
 
 impl State {
-    pub fn start(frame_size: u64, first_number: u32) -> Result<State, Refusal> {
+    pub fn start(draft: Draft, frame_size: u64, first_number: u32) -> Result<State, Refusal> {
         if !(MIN_FRAME as u64..=MAX_FRAME as u64).contains(&frame_size) {
             return Err(Refusal::FrameSize);
         }
         Ok(State {
+            draft,
             frame_size: frame_size as u16,
             fill: 0,
             next_number: first_number,
@@ -68,13 +69,20 @@ impl State {
             || length > MAX_BUNDLE
             || transfer.placed == 0
             || transfer.placed >= transfer.length
-            || transfer.next_index == 0
         {
             return false;
         }
-        let remaining = length - usize::from(transfer.placed);
-        let pieces = remaining.div_ceil(size - PIECE_HEADER) as u64;
-        u64::from(transfer.next_index) + pieces <= MAX_PIECES
+        let next = u64::from(transfer.next_index);
+        let pieces = u64::from(self.pieces(length - usize::from(transfer.placed)));
+        match self.draft {
+            Draft::D00 => next + 1 == pieces,
+            Draft::D02 => next >= 1 && next + pieces <= MAX_PIECES,
+        }
+    }
+
+    /// In how many pieces octets go that an empty frame begins with.
+    fn pieces(&self, octets: usize) -> u32 {
+        octets.div_ceil(usize::from(self.frame_size) - PIECE_HEADER) as u32
     }
 
     fn admit(&self, frame: &[u8]) -> Result<(), Refusal> {
@@ -139,29 +147,46 @@ impl State {
         if room.len() <= PIECE_HEADER {
             return self.close(frame);
         }
-        let transfer = self.begun.unwrap_or_else(|| {
-            let number = self.next_number;
-            self.next_number = number.wrapping_add(1);
-            Transfer {
-                number,
-                length: bundle.len() as u16,
-                placed: 0,
-                next_index: 0,
-            }
-        });
+        let first = self.begun.is_none();
+        let room_for_data = room.len() - PIECE_HEADER;
+        let transfer = self
+            .begun
+            .unwrap_or_else(|| self.begin(bundle.len(), room_for_data));
         let remaining = &bundle[usize::from(transfer.placed)..];
-        let octets = remaining.len().min(room.len() - PIECE_HEADER);
-        let end = octets == remaining.len();
-        put_header(room, if end { END } else { SEGMENT }, octets + 8);
+        let octets = remaining.len().min(room_for_data);
+        let last = octets == remaining.len();
+        let end = match self.draft {
+            Draft::D00 => first,
+            Draft::D02 => last,
+        };
+        put_header(room, self.draft.piece_type(end), octets + 8);
         room[4..8].copy_from_slice(&transfer.number.to_be_bytes());
         room[8..12].copy_from_slice(&transfer.next_index.to_be_bytes());
         room[PIECE_HEADER..PIECE_HEADER + octets].copy_from_slice(&remaining[..octets]);
-        self.begun = (!end).then_some(Transfer {
+        self.begun = (!last).then(|| Transfer {
             placed: transfer.placed + octets as u16,
-            next_index: transfer.next_index + 1,
+            next_index: match self.draft {
+                Draft::D00 => transfer.next_index - 1,
+                Draft::D02 => transfer.next_index + 1,
+            },
             ..transfer
         });
         self.advance(PIECE_HEADER + octets)
+    }
+
+    /// Takes the next number for a transfer whose first piece carries so many octets.
+    fn begin(&mut self, length: usize, octets: usize) -> Transfer {
+        let number = self.next_number;
+        self.next_number = number.wrapping_add(1);
+        Transfer {
+            number,
+            length: length as u16,
+            placed: 0,
+            next_index: match self.draft {
+                Draft::D00 => self.pieces(length - octets),
+                Draft::D02 => 0,
+            },
+        }
     }
 
     pub fn cancel(&mut self, frame: &mut [u8]) -> Result<Answer, Refusal> {

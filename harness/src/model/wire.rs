@@ -1,5 +1,7 @@
 //! Messages of a frame.
 
+use super::draft::{Draft, Layout, Layout00, Layout02};
+
 pub const MAX_FRAME: usize = 2048;
 
 /// What makes a message malformed, in the order in which it is looked for.
@@ -16,7 +18,7 @@ pub enum Message<'a> {
     /// Padding, or a type passed over by its length.
     Passed,
     Bundle(&'a [u8]),
-    /// A transfer segment or a transfer end.
+    /// A transfer segment or a transfer end, in draft 00 a transfer start.
     Piece(Piece<'a>),
     Cancel(u32),
 }
@@ -25,32 +27,28 @@ pub enum Message<'a> {
 pub struct Piece<'a> {
     pub number: u32,
     pub index: u32,
+    /// Whether it carries the final index: an end, or in draft 00 a start, which stands for an end.
     pub end: bool,
     pub data: &'a [u8],
 }
 
 const BUNDLE: u8 = 2;
-const SEGMENT: u8 = 3;
-const END: u8 = 4;
 const CANCEL: u8 = 5;
-
-/// The only flag that is looked at: the three reserved bits behind it are ignored in every type.
-const HINTS: u8 = 0x80;
 
 /// Reads the message that starts at `at`, which must lie inside the frame, and the place after it.
 ///
 /// Always inline: left to the compiler, some loops over messages take twice the time.
 #[inline(always)]
-pub fn read(frame: &[u8], at: usize) -> Result<(Message<'_>, usize), Fault> {
+pub fn read<L: Layout>(frame: &[u8], at: usize) -> Result<(Message<'_>, usize), Fault> {
     let rest = &frame[at..];
     if rest[0] == 0 {
         let run = rest.iter().take_while(|&&octet| octet == 0).count();
         return Ok((Message::Passed, at + run));
     }
-    let Some((&[kind, flags, high, low], rest)) = rest.split_first_chunk::<4>() else {
+    let Some((&[kind, second, high, low], rest)) = rest.split_first_chunk::<4>() else {
         return Err(Fault::HeaderCut);
     };
-    let length = u32::from_be_bytes([0, flags & 0x0f, high, low]) as usize;
+    let length = u32::from_be_bytes([0, second & L::LENGTH, high, low]) as usize;
     let Some(body) = rest.get(..length) else {
         return Err(Fault::LengthPastFrame);
     };
@@ -58,20 +56,21 @@ pub fn read(frame: &[u8], at: usize) -> Result<(Message<'_>, usize), Fault> {
     if !(BUNDLE..=CANCEL).contains(&kind) {
         return Ok((Message::Passed, next));
     }
-    let content = if flags & HINTS == 0 {
+    let content = if second & L::HINTS == 0 {
         body
     } else {
         after_hints(body).ok_or(Fault::HintsPastMessage)?
     };
     let message = match kind {
         BUNDLE => Message::Bundle(content),
-        SEGMENT | END => {
+        // The two types of pieces; the draft says which one carries the final index.
+        3 | 4 => {
             let (number, rest) = content.split_first_chunk().ok_or(Fault::ContentLength)?;
             let (index, data) = rest.split_first_chunk().ok_or(Fault::ContentLength)?;
             Message::Piece(Piece {
                 number: u32::from_be_bytes(*number),
                 index: u32::from_be_bytes(*index),
-                end: kind == END,
+                end: kind == L::DRAFT.piece_type(true),
                 data,
             })
         }
@@ -95,12 +94,19 @@ fn after_hints(mut rest: &[u8]) -> Option<&[u8]> {
 }
 
 /// Checks a whole frame; the answer is whether `place` is a good place in it.
-pub fn check(frame: &[u8], place: u64) -> Result<bool, (Fault, usize)> {
+pub fn check(draft: Draft, frame: &[u8], place: u64) -> Result<bool, (Fault, usize)> {
+    match draft {
+        Draft::D00 => check_in::<Layout00>(frame, place),
+        Draft::D02 => check_in::<Layout02>(frame, place),
+    }
+}
+
+fn check_in<L: Layout>(frame: &[u8], place: u64) -> Result<bool, (Fault, usize)> {
     let mut good = place == frame.len() as u64;
     let mut at = 0;
     while at < frame.len() {
         good |= place == at as u64;
-        at = match read(frame, at) {
+        at = match read::<L>(frame, at) {
             Ok((_, next)) => next,
             Err(fault) => return Err((fault, at)),
         };

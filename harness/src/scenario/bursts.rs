@@ -10,11 +10,17 @@ type HandedOut = (Vec<(u64, Vec<u8>)>, Vec<(u32, u32)>);
 
 /// Frames of every kind, also some that cannot be recorded.
 fn frames(trial: &mut Trial) -> Vec<Vec<u8>> {
+    let draft = trial.draft_of_frames();
     let random = &mut trial.random;
-    let mut frames = generate::recorded_frames(random);
+    let mut frames = generate::recorded_frames(random, draft);
     for _ in 0..random.below(4) {
         let at = random.below(frames.len() + 1);
         frames.insert(at, generate::random_frame(random));
+    }
+    if random.once_in(2) {
+        // A chain of hints that runs past its message; in draft 00 a length that runs past the frame.
+        let cut = vec![random.within(2, 5) as u8, 0x80, 0, 1, random.octet()];
+        frames.insert(random.below(frames.len() + 1), cut);
     }
     frames.truncate(BURST_FRAMES);
     frames
@@ -44,7 +50,7 @@ fn by_bursts(trial: &mut Trial, receiver: &mut ReceiverPair, frames: &[Vec<u8>])
         output: trial.random.pick(&[4096, 4097, 8192, 20_000, 150_000]),
     };
     loop {
-        if trial.random.once_in(4) {
+        if trial.random.once_in(2) {
             refused_between(trial, receiver, burst);
         }
         let Ok(taken) = receiver.receive_burst(trial, burst) else {

@@ -2,14 +2,22 @@
 
 use crate::compare::{Lending, PlayMemory, Played, Received, ReceiverPair, Trial};
 use crate::generate::{self, ROWS, UNRECORDABLE};
+use crate::model::Draft;
 use btpu::raw::POOL;
 
 /// Recordings as full as they can be cost time, so they are tried once in so many runs.
 const FULL_ONCE_IN: usize = 4;
 
+/// Frames to be recorded; a playback is of draft 02, also where they are of draft 00.
+fn recorded_frames(trial: &mut Trial) -> Vec<Vec<u8>> {
+    trial.draft = Draft::D02;
+    let draft = trial.draft_of_frames();
+    generate::recorded_frames(&mut trial.random, draft)
+}
+
 /// What is written is read back, and what was read is written again; then what cannot be written.
 pub fn recordings(trial: &mut Trial) {
-    let frames = generate::recorded_frames(&mut trial.random);
+    let frames = recorded_frames(trial);
     let (sizes, octets) = generate::joined(&frames);
     let expected = generate::recording(&sizes, &octets);
     let whole = expected.len();
@@ -46,8 +54,8 @@ fn write_again(trial: &mut Trial, recording: &[u8], sizes: &[u16]) {
 /// Good recordings after damage of some kind, and what cannot be written, opened and played.
 pub fn damaged_recordings(trial: &mut Trial) {
     let frames = match trial.random.below(4) {
-        0 => generate::recorded_frames(&mut trial.random),
-        _ => generate::small_frames(&mut trial.random),
+        0 => recorded_frames(trial),
+        _ => generate::small_frames(&mut trial.random, Draft::D02),
     };
     let recording = generate::recorded(&frames);
     let enough = PlayMemory::least(&mut trial.random);
@@ -117,7 +125,7 @@ fn too_little(trial: &mut Trial, enough: &PlayMemory) -> (PlayMemory, u32) {
 
 /// Playbacks with many limits; without a limit, what comes out is what single calls hand out.
 pub fn playbacks(trial: &mut Trial) {
-    let frames = generate::recorded_frames(&mut trial.random);
+    let frames = recorded_frames(trial);
     let recording = generate::recorded(&frames);
     let mut memory = PlayMemory::least(&mut trial.random);
     let all = as_single_calls(trial, &frames, &recording, &mut memory);
@@ -149,6 +157,7 @@ fn as_single_calls(
     recording: &[u8],
     memory: &mut PlayMemory,
 ) -> Played {
+    trial.draft = Draft::D02;
     let mut receiver = ReceiverPair::start(trial);
     memory.pool = receiver.pool().to_vec();
     let Ok(played) = trial.play(recording, u64::MAX, memory) else {
@@ -193,7 +202,7 @@ fn take_singly(trial: &mut Trial, receiver: &mut ReceiverPair, frames: &[Vec<u8>
     Played {
         messages: frames
             .iter()
-            .filter_map(|frame| generate::message_count(frame))
+            .filter_map(|frame| generate::message_count(Draft::D02, frame))
             .sum(),
         bundles,
         refused,
@@ -254,7 +263,7 @@ pub fn full_by_single_calls(trial: &mut Trial) {
 
 /// Every beginning of a recording; none but the whole is a recording.
 pub fn every_beginning(trial: &mut Trial) {
-    let frames = generate::small_frames(&mut trial.random);
+    let frames = generate::small_frames(&mut trial.random, Draft::D02);
     let recording = generate::recorded(&frames);
     let memory = PlayMemory::least(&mut trial.random);
     for length in 0..recording.len() {
@@ -267,7 +276,7 @@ pub fn every_beginning(trial: &mut Trial) {
 
 /// A recording with every single bit flipped, which may also leave a recording.
 pub fn every_bit(trial: &mut Trial) {
-    let frames = generate::small_frames(&mut trial.random);
+    let frames = generate::small_frames(&mut trial.random, Draft::D02);
     let mut recording = generate::recorded(&frames);
     let memory = PlayMemory::least(&mut trial.random);
     for bit in 0..8 * recording.len() {
@@ -279,7 +288,7 @@ pub fn every_bit(trial: &mut Trial) {
 
 /// Playbacks with every limit up to one more than there are messages.
 pub fn every_limit(trial: &mut Trial) {
-    let frames = generate::recorded_frames(&mut trial.random);
+    let frames = recorded_frames(trial);
     let recording = generate::recorded(&frames);
     let mut memory = PlayMemory::least(&mut trial.random);
     let all = as_single_calls(trial, &frames, &recording, &mut memory);

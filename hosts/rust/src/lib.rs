@@ -30,6 +30,27 @@
 //! # Ok::<(), btpu::Refusal>(())
 //! ```
 //!
+//! # Drafts
+//!
+//! There are two drafts of the protocol, draft-ietf-dtn-btpu-02 and draft-ietf-dtn-btpu-00. A receiver or
+//! sender is set to one [`Draft`] when it is made: `new` makes it of draft 02, `of_draft` of the draft
+//! given. All else is the same for both, but a frame does not say of which draft it is: give the frames of
+//! a sender to receivers of its own draft. Those of the other draft read them as their own, and may refuse
+//! them, or hand out something else. A recording has no draft, and is played as draft 02.
+//!
+//! ```
+//! use btpu::{Draft, Receiver, Sender};
+//!
+//! let mut sender = Sender::of_draft(Draft::Draft00, 512, 7)?;
+//! let mut receiver = Receiver::of_draft(sender.draft());
+//! let mut received = Vec::new();
+//! let mut link = |frame: &[u8]| received.extend(receiver.receive(frame).expect("a good frame"));
+//! sender.send(&[0x55; 3000], &mut link)?;
+//! sender.finish(&mut link)?;
+//! assert_eq!(received[0].octets, [0x55; 3000]);
+//! # Ok::<(), btpu::Refusal>(())
+//! ```
+//!
 //! # Refusals
 //!
 //! A call that cannot be carried out is refused with a [`Refusal`]: it changes nothing, and the receiver
@@ -64,12 +85,13 @@
 //! All calls go to a static library, libboard.a, through the C interface `include/btpu.h`; [`raw`] has its
 //! functions. The build takes it from `target/staticlib` of the repository, where `rt staticlib board`
 //! puts it, or libbtpu.a from the directory named by the environment variable `BTPU_LIB_DIR`. A call
-//! takes up to 64 KiB of the stack, [`Recording::play`] up to 128 KiB.
+//! takes up to `BTPU_STACK` octets of the stack, [`Recording::play`] up to `BTPU_PLAY_STACK`.
 
 #![deny(missing_docs)]
 #![deny(unsafe_code)]
 #![forbid(unsafe_op_in_unsafe_fn)]
 
+mod draft;
 #[allow(unsafe_code)]
 pub mod raw;
 mod receiver;
@@ -78,6 +100,7 @@ mod refusal;
 mod sender;
 mod window;
 
+pub use draft::Draft;
 pub use receiver::{Bundle, Bundles, Burst, Receiver};
 pub use recording::{Playback, Recording, RefusedFrame};
 pub use refusal::{Refusal, RestoreError};

@@ -21,6 +21,12 @@ pub const MAX_FRAME: usize = 2048;
 pub const MIN_FRAME_SIZE: usize = 128;
 /// The greatest frame size of a sender.
 pub const MAX_FRAME_SIZE: usize = 2048;
+/// The octet of a receiver's image that has its draft: 1 for draft 00, 0 for draft 02.
+pub const RECEIVER_DRAFT: usize = 2;
+/// The octet of a sender's image that tells whether a transfer is begun: 1 if so, else 0.
+pub const SENDER_BEGUN: usize = 8;
+/// The octet of a sender's image that has its draft: 1 for draft 00, 0 for draft 02.
+pub const SENDER_DRAFT: usize = 9;
 /// The transfer number of a bundle that came in one message, outside of any transfer.
 pub const NO_NUMBER: u64 = 1 << 32;
 /// Frames of a burst at most.
@@ -52,6 +58,7 @@ pub type BurstNotes<'a> = (&'a mut [u32; BURST_FRAMES], &'a mut [u32; BURST_FRAM
 mod exported {
     extern "C" {
         pub fn btpu_receiver_start(state: *mut u8) -> u32;
+        pub fn btpu_receiver_start_00(state: *mut u8) -> u32;
         pub fn btpu_receiver_check(state: *const u8) -> u32;
         pub fn btpu_receive(
             state: *mut u8,
@@ -83,6 +90,7 @@ mod exported {
             result: *mut u64,
         ) -> u32;
         pub fn btpu_sender_start(state: *mut u8, frame_size: u64, first_number: u32) -> u32;
+        pub fn btpu_sender_start_00(state: *mut u8, frame_size: u64, first_number: u32) -> u32;
         pub fn btpu_sender_check(state: *const u8) -> u32;
         pub fn btpu_place(
             state: *mut u8,
@@ -133,10 +141,16 @@ mod exported {
 // valid during the call for the lengths given, or declared in the header; writable ones come from exclusive
 // borrows, so that none of them overlaps with another; and the library keeps no pointer after a call.
 
-/// Writes the image of a fresh receiver. Refusals: none.
+/// Writes the image of a fresh receiver of draft 02. Refusals: none.
 #[inline]
 pub fn receiver_start(state: &mut [u8; RECEIVER_IMAGE]) -> u32 {
     unsafe { exported::btpu_receiver_start(state.as_mut_ptr()) }
+}
+
+/// Writes the image of a fresh receiver of draft 00. Refusals: none.
+#[inline]
+pub fn receiver_start_00(state: &mut [u8; RECEIVER_IMAGE]) -> u32 {
+    unsafe { exported::btpu_receiver_start_00(state.as_mut_ptr()) }
 }
 
 /// Whether an image is a sound state. Refusal: 1.
@@ -204,10 +218,16 @@ pub fn receive_burst(
     }
 }
 
-/// Writes the image of a fresh sender. Refusal: 14.
+/// Writes the image of a fresh sender of draft 02. Refusal: 14.
 #[inline]
 pub fn sender_start(state: &mut [u8; SENDER_IMAGE], frame_size: u64, first_number: u32) -> u32 {
     unsafe { exported::btpu_sender_start(state.as_mut_ptr(), frame_size, first_number) }
+}
+
+/// Writes the image of a fresh sender of draft 00. Refusal: 14.
+#[inline]
+pub fn sender_start_00(state: &mut [u8; SENDER_IMAGE], frame_size: u64, first_number: u32) -> u32 {
+    unsafe { exported::btpu_sender_start_00(state.as_mut_ptr(), frame_size, first_number) }
 }
 
 /// Whether an image is a sound state. Refusal: 1.
@@ -296,7 +316,7 @@ pub fn recording_open(
     }
 }
 
-/// Plays a recording on a fresh receiver, until `limit` messages are treated or all are. Bundles go to an
+/// Plays a recording on a fresh receiver of draft 02, until `limit` messages are treated or all are. Bundles go to an
 /// output and a list of their lengths, refused frames to their places and reasons. Refusals: 16 to 20, 2,
 /// 24.
 #[inline]

@@ -3,9 +3,9 @@
 use std::fmt;
 use std::iter::FusedIterator;
 
-use crate::raw::{self, MIN_OUTPUT, POOL, RECEIVER_IMAGE};
+use crate::raw::{self, MIN_OUTPUT, POOL, RECEIVER_DRAFT, RECEIVER_IMAGE};
 use crate::window::Window;
-use crate::{Refusal, RestoreError};
+use crate::{Draft, Refusal, RestoreError};
 
 mod burst;
 
@@ -58,15 +58,41 @@ pub struct Receiver {
 }
 
 impl Receiver {
-    /// A fresh receiver.
+    /// A fresh receiver of draft 02.
     pub fn new() -> Receiver {
+        Receiver::of_draft(Draft::Draft02)
+    }
+
+    /// A fresh receiver of a draft.
+    ///
+    /// ```
+    /// use btpu::{Draft, Receiver};
+    ///
+    /// let mut receiver = Receiver::of_draft(Draft::Draft00);
+    /// // Two pieces of transfer 5: a segment with index 0, which is the last one, and the start.
+    /// let last = [4, 0, 0, 9, 0, 0, 0, 5, 0, 0, 0, 0, b'b'];
+    /// let first = [3, 0, 0, 9, 0, 0, 0, 5, 0, 0, 0, 1, b'a'];
+    /// assert_eq!(receiver.receive(&last)?, []);
+    /// assert_eq!(receiver.receive(&first)?[0].octets, b"ab");
+    /// # Ok::<(), btpu::Refusal>(())
+    /// ```
+    pub fn of_draft(draft: Draft) -> Receiver {
         let mut receiver = Receiver {
             image: boxed(&[0; RECEIVER_IMAGE]),
             pool: boxed(&[0; POOL]),
         };
-        let returned = raw::receiver_start(&mut receiver.image);
+        let start = match draft {
+            Draft::Draft00 => raw::receiver_start_00,
+            Draft::Draft02 => raw::receiver_start,
+        };
+        let returned = start(&mut receiver.image);
         assert_eq!(returned, 0, "a receiver's start refuses nothing");
         receiver
+    }
+
+    /// The draft that the receiver is set to.
+    pub fn draft(&self) -> Draft {
+        Draft::of(self.image[RECEIVER_DRAFT])
     }
 
     /// Takes a frame to its end; the answer is all bundles that it completes, in their order.
@@ -90,7 +116,7 @@ impl Receiver {
     ///
     /// # Errors
     ///
-    /// Refusals 3, 4 and 6 to 8.
+    /// Refusals 3, 4, 6 and 8; in draft 02 also 7.
     pub fn receive(&mut self, frame: &[u8]) -> Result<Vec<Bundle>, Refusal> {
         self.bundles(frame).collect()
     }
@@ -226,7 +252,10 @@ impl Default for Receiver {
 
 impl fmt::Debug for Receiver {
     fn fmt(&self, f: &mut fmt::Formatter) -> fmt::Result {
-        f.debug_tuple("Receiver").field(&self.window()).finish()
+        f.debug_struct("Receiver")
+            .field("draft", &self.draft())
+            .field("window", &self.window())
+            .finish_non_exhaustive()
     }
 }
 

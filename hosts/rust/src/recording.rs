@@ -5,6 +5,9 @@ use crate::Refusal;
 
 /// A recording that was opened: frames in order, at most 1,024 with at most 61,440 octets.
 ///
+/// A recording has no draft: frames of either draft may be written and read back. A playback reads them as
+/// draft 02.
+///
 /// ```
 /// use btpu::Recording;
 ///
@@ -71,7 +74,7 @@ impl<'a> Recording<'a> {
         parts(self.octets, &self.sizes)
     }
 
-    /// Plays the recording on a fresh receiver until `limit` messages are treated, or to its end.
+    /// Plays the recording on a fresh receiver of draft 02 until `limit` messages are treated, or to its end.
     ///
     /// A run of padding counts as one message; a refused frame has none.
     pub fn play(&self, limit: u64) -> Playback {

@@ -30,7 +30,7 @@ pub enum Refusal {
         /// Where the message starts.
         place: u32,
     },
-    /// 5: never given; reserved flag bits are ignored.
+    /// 5: never given; reserved flag bits are ignored, and draft 00 has none.
     Flag {
         /// Where the message starts.
         place: u32,
@@ -40,7 +40,7 @@ pub enum Refusal {
         /// Where the message starts.
         place: u32,
     },
-    /// 7: a chain of hints runs past its message.
+    /// 7: a chain of hints runs past its message; draft 00 has none.
     Hints {
         /// Where the message starts.
         place: u32,

@@ -2,8 +2,8 @@
 
 use std::fmt;
 
-use crate::raw::{self, MIN_FRAME_SIZE, SENDER_IMAGE};
-use crate::{Refusal, RestoreError};
+use crate::raw::{self, MIN_FRAME_SIZE, SENDER_BEGUN, SENDER_DRAFT, SENDER_IMAGE};
+use crate::{Draft, Refusal, RestoreError};
 
 /// What a call of a sender did.
 #[derive(Clone, Copy, Debug, PartialEq, Eq)]
@@ -56,15 +56,38 @@ pub struct Sender {
 }
 
 impl Sender {
-    /// A fresh sender with frames of `frame_size` octets, whose first transfer has the number
+    /// A fresh sender of draft 02 with frames of `frame_size` octets, whose first transfer has the number
     /// `first_number`.
     ///
     /// # Errors
     ///
     /// Refusal 14: a frame size outside 128 to 2,048.
     pub fn new(frame_size: usize, first_number: u32) -> Result<Sender, Refusal> {
+        Sender::of_draft(Draft::Draft02, frame_size, first_number)
+    }
+
+    /// The same of a draft.
+    ///
+    /// ```
+    /// use btpu::{Draft, Sender};
+    ///
+    /// let mut sender = Sender::of_draft(Draft::Draft00, 128, 7)?;
+    /// sender.place(&[0x55; 300])?;
+    /// // The start of transfer 7, with 116 octets of its bundle; two pieces follow, with the indexes 1 and 0.
+    /// assert_eq!(sender.frame()[..12], [3, 0, 0, 124, 0, 0, 0, 7, 0, 0, 0, 2]);
+    /// # Ok::<(), btpu::Refusal>(())
+    /// ```
+    ///
+    /// # Errors
+    ///
+    /// As [`new`](Sender::new).
+    pub fn of_draft(draft: Draft, frame_size: usize, first_number: u32) -> Result<Sender, Refusal> {
+        let start = match draft {
+            Draft::Draft00 => raw::sender_start_00,
+            Draft::Draft02 => raw::sender_start,
+        };
         let mut image = [0; SENDER_IMAGE];
-        let returned = raw::sender_start(&mut image, frame_size as u64, first_number);
+        let returned = start(&mut image, frame_size as u64, first_number);
         Refusal::from_returned(returned)?;
         Ok(Sender {
             image,
@@ -121,7 +144,7 @@ impl Sender {
     ///
     /// # Errors
     ///
-    /// None of a sender that was made by [`new`](Sender::new) or [`restore`](Sender::restore).
+    /// None: a sender that was made here is sound.
     pub fn flush(&mut self) -> Result<Sent, Refusal> {
         let mut result = [0; 4];
         let returned = raw::flush(&mut self.image, &mut self.frame, &mut result);
@@ -177,7 +200,12 @@ impl Sender {
 
     /// Whether a transfer is begun and not yet at its end.
     pub fn is_begun(&self) -> bool {
-        self.image[8] == 1
+        self.image[SENDER_BEGUN] == 1
+    }
+
+    /// The draft that the sender is set to.
+    pub fn draft(&self) -> Draft {
+        Draft::of(self.image[SENDER_DRAFT])
     }
 
     /// The image of the state, as `include/btpu.h` lays it out.
@@ -240,6 +268,7 @@ impl Sender {
 impl fmt::Debug for Sender {
     fn fmt(&self, f: &mut fmt::Formatter) -> fmt::Result {
         f.debug_struct("Sender")
+            .field("draft", &self.draft())
             .field("frame_size", &self.frame_size())
             .field("next_number", &self.next_number())
             .field("is_begun", &self.is_begun())

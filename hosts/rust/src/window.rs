@@ -23,7 +23,8 @@ pub struct Row {
     pub number: Option<u32>,
     /// How far the transfer is.
     pub phase: Phase,
-    /// The index of the last piece, if it is held.
+    /// The highest index of the transfer, if it is known: in draft 02 that of its end, in draft 00 that of
+    /// its start.
     pub last: Option<u8>,
     /// The pieces held, in order of arrival.
     pub pieces: Vec<Piece>,
@@ -32,7 +33,7 @@ pub struct Row {
 /// A piece of a bundle that a receiver holds.
 #[derive(Clone, Copy, Debug, PartialEq, Eq)]
 pub struct Piece {
-    /// Its place among the pieces of the bundle, from 0.
+    /// Its place among the pieces of the bundle, from 0; in draft 00 counted from the last piece.
     pub index: u8,
     /// Its octets.
     pub length: u16,

@@ -1,7 +1,7 @@
 //! Bursts: the same as one frame after the other.
 
 use btpu::raw::{BURST_BUNDLES, BURST_FRAMES, MAX_FRAME, NO_NUMBER};
-use btpu::{Bundle, Burst, Receiver, RefusedFrame};
+use btpu::{Bundle, Burst, Draft, Receiver, RefusedFrame};
 
 /// Pseudo-random numbers that are the same in each run.
 struct Random(u64);
@@ -29,8 +29,17 @@ fn message(kind: u8, content: &[u8]) -> Vec<u8> {
     [&[kind], &length[1..], content].concat()
 }
 
+/// A piece of a transfer with three.
+fn piece(draft: Draft, place: &[u8], index: u32, data: &[u8]) -> Vec<u8> {
+    let kind = match (draft, index) {
+        (Draft::Draft02, 2) | (Draft::Draft00, 0 | 1) => 4,
+        _ => 3,
+    };
+    message(kind, &[place, data].concat())
+}
+
 /// A bundle, padding, or a piece or cancel of one of a few transfers.
-fn any_message(random: &mut Random, first_number: u32) -> Vec<u8> {
+fn any_message(random: &mut Random, draft: Draft, first_number: u32) -> Vec<u8> {
     let number = first_number.wrapping_add(random.below(20) as u32);
     let index = random.below(3) as u32;
     let place = [number.to_be_bytes(), index.to_be_bytes()].concat();
@@ -42,7 +51,7 @@ fn any_message(random: &mut Random, first_number: u32) -> Vec<u8> {
         1 => message(1, &data),
         2..=4 => message(2, &data),
         5 => message(5, &place[..4]),
-        _ => message(if index == 2 { 4 } else { 3 }, &[place, data].concat()),
+        _ => piece(draft, &place, index, &data),
     }
 }
 
@@ -55,10 +64,10 @@ const BAD: [&[u8]; 4] = [
 ];
 
 /// A frame: mostly good, else damaged, or too short or too long.
-fn any_frame(random: &mut Random, first_number: u32) -> Vec<u8> {
+fn any_frame(random: &mut Random, draft: Draft, first_number: u32) -> Vec<u8> {
     let mut frame = Vec::new();
     for _ in 0..1 + random.below(12) {
-        let message = any_message(random, first_number);
+        let message = any_message(random, draft, first_number);
         if frame.len() + message.len() <= MAX_FRAME {
             frame.extend(message);
         }
@@ -109,13 +118,14 @@ fn the_same_as_one_after_the_other() {
     let mut refused = [0; 9];
     let (mut whole, mut in_pieces, mut frames_taken) = (0, 0, 0);
     for round in 0..300u32 {
-        let mut receiver = Receiver::new();
+        let draft = Draft::ALL[round as usize % 2];
+        let mut receiver = Receiver::of_draft(draft);
         let mut first_number = round.wrapping_sub(150);
         for _ in 0..4 {
             let most = random.pick(&[3, 10, 65, 140]);
             let count = random.below(most);
             let frames: Vec<Vec<u8>> = (0..count)
-                .map(|_| any_frame(&mut random, first_number))
+                .map(|_| any_frame(&mut random, draft, first_number))
                 .collect();
             let burst = taken(&mut receiver, &frames);
             let numbered = burst.bundles.iter().filter(|one| one.number.is_some());

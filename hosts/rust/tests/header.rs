@@ -97,7 +97,7 @@ fn other_numbers_are_none() {
 }
 
 #[test]
-fn sizes_are_those_of_the_header() {
+fn sizes_and_octets_are_those_of_the_header() {
     let text = header();
     let definitions = definitions(&text);
     let sizes = [
@@ -117,10 +117,15 @@ fn sizes_are_those_of_the_header() {
         ("RECORDED_OCTETS", raw::RECORDED_OCTETS),
         ("PLAYED_BUNDLES", raw::PLAYED_BUNDLES),
     ];
-    for (name, size) in sizes {
+    let octets = [
+        ("RECEIVER_DRAFT", raw::RECEIVER_DRAFT),
+        ("SENDER_BEGUN", raw::SENDER_BEGUN),
+        ("SENDER_DRAFT", raw::SENDER_DRAFT),
+    ];
+    for (name, number) in sizes.into_iter().chain(octets) {
         let found = definitions.iter().find(|(defined, _)| *defined == name);
-        let number = found.expect(name).1.split(' ').next();
-        assert_eq!(number, Some(&size.to_string()[..]), "{name}");
+        let defined = found.expect(name).1.split(' ').next();
+        assert_eq!(defined, Some(&number.to_string()[..]), "{name}");
     }
     assert!(definitions.contains(&("NO_NUMBER", &format!("UINT64_C({})", raw::NO_NUMBER))));
 }
@@ -166,6 +171,6 @@ fn functions_are_those_of_the_header() {
     let raw = fs::read_to_string(path).expect("src/raw.rs can be read");
     let text = header();
     let declared = parameters(&text, "\nuint32_t btpu_", from_c);
-    assert_eq!(declared.len(), 12);
+    assert_eq!(declared.len(), 14);
     assert_eq!(declared, parameters(&raw, "pub fn btpu_", from_rust));
 }

@@ -1,7 +1,7 @@
 //! Receivers and senders that are saved and restored.
 
 use btpu::raw::{POOL, RECEIVER_IMAGE, SENDER_IMAGE};
-use btpu::{Receiver, Refusal, RestoreError, Sender, Sent};
+use btpu::{Draft, Receiver, Refusal, RestoreError, Sender, Sent};
 
 const UNSOUND: Option<RestoreError> = Some(RestoreError::Refused(Refusal::State));
 
@@ -12,14 +12,19 @@ fn octets(length: usize, salt: usize) -> Vec<u8> {
 /// Both sides restored after every call, over several transfers.
 #[test]
 fn after_every_call() {
+    Draft::ALL.into_iter().for_each(restored_after_every_call);
+}
+
+fn restored_after_every_call(draft: Draft) {
     let bundles: Vec<Vec<u8>> = (0..20).map(|n| octets(1 + n * 193, n)).collect();
-    let mut sender = Sender::new(128, 9).unwrap();
-    let mut receiver = Receiver::new();
+    let mut sender = Sender::of_draft(draft, 128, 9).unwrap();
+    let mut receiver = Receiver::of_draft(draft);
     let mut received = Vec::new();
     let mut take = |frame: &[u8]| {
         received.extend(receiver.receive(frame).unwrap());
         let saved = receiver.save();
         receiver = Receiver::restore(&saved).unwrap();
+        assert_eq!(receiver.draft(), draft);
         assert!(receiver.save() == saved);
     };
     let mut begun = 0;
@@ -28,6 +33,7 @@ fn after_every_call() {
             let sent = sender.place(bundle).unwrap();
             let saved = sender.save();
             sender = Sender::restore(&saved).unwrap();
+            assert_eq!(sender.draft(), draft);
             assert_eq!(sender.save(), saved);
             if sent.is_ready() {
                 take(sender.frame());
@@ -63,7 +69,8 @@ fn without_a_save() {
 #[test]
 fn damaged_receivers() {
     let saved = Receiver::new().save();
-    for (at, octet) in [(0, 2), (1, 1), (7, 1), (8, 1), (RECEIVER_IMAGE - 1, 1)] {
+    let octets = [(0, 2), (1, 1), (2, 2), (2, 255), (3, 1), (7, 1), (8, 1)];
+    for (at, octet) in octets.into_iter().chain([(RECEIVER_IMAGE - 1, 1)]) {
         let mut damaged = saved.clone();
         damaged[at] = octet;
         assert_eq!(Receiver::restore(&damaged).err(), UNSOUND, "octet {at}");
@@ -84,7 +91,8 @@ fn damaged_receivers() {
 #[test]
 fn damaged_senders() {
     let saved = Sender::new(300, 9).unwrap().save();
-    for (at, octet) in [(0, 9), (8, 1), (SENDER_IMAGE - 1, 1)] {
+    let octets = [(0, 9), (8, 1), (9, 2), (9, 255), (10, 1), (11, 1)];
+    for (at, octet) in octets.into_iter().chain([(SENDER_IMAGE - 1, 1)]) {
         let mut damaged = saved.clone();
         damaged[at] = octet;
         assert_eq!(Sender::restore(&damaged).err(), UNSOUND, "octet {at}");

@@ -2,7 +2,7 @@
 
 use std::collections::HashMap;
 
-use btpu::{Bundle, Phase, Receiver, Sender};
+use btpu::{Bundle, Draft, Phase, Receiver, Sender};
 
 /// Pseudo-random numbers that are the same in each run.
 struct Random(u64);
@@ -28,8 +28,8 @@ impl Random {
 }
 
 /// The frames of these bundles.
-fn sent(bundles: &[Vec<u8>], frame_size: usize, first_number: u32) -> Vec<Vec<u8>> {
-    let mut sender = Sender::new(frame_size, first_number).unwrap();
+fn sent(draft: Draft, bundles: &[Vec<u8>], frame_size: usize, first_number: u32) -> Vec<Vec<u8>> {
+    let mut sender = Sender::of_draft(draft, frame_size, first_number).unwrap();
     let mut frames = Vec::new();
     for bundle in bundles {
         let link = |frame: &[u8]| frames.push(frame.to_vec());
@@ -55,9 +55,11 @@ fn in_order() {
     for frame_size in [128, 129, 500, 2047, 2048] {
         let lengths = [1, 116, 117, 124, 125, 300, 2044, 2045, 4095, 4096];
         let bundles = lengths.map(|length| random.octets(length));
-        let frames = sent(&bundles, frame_size, u32::MAX - 3);
-        let received = received(&mut Receiver::new(), &frames);
-        assert!(received.iter().map(|bundle| &bundle.octets).eq(&bundles));
+        for draft in Draft::ALL {
+            let frames = sent(draft, &bundles, frame_size, u32::MAX - 3);
+            let received = received(&mut Receiver::of_draft(draft), &frames);
+            assert!(received.iter().map(|bundle| &bundle.octets).eq(&bundles));
+        }
     }
 }
 
@@ -66,6 +68,7 @@ fn in_order() {
 fn shuffled_and_repeated() {
     let mut random = Random(2);
     for round in 0..200 {
+        let draft = Draft::ALL[round as usize % 2];
         let frame_size = 128 + random.below(400);
         // No bundle has room in one message, so that each is a transfer.
         let mut bundles = Vec::new();
@@ -74,13 +77,13 @@ fn shuffled_and_repeated() {
             bundles.push(random.octets(length));
         }
         let first = 0u32.wrapping_sub(8).wrapping_add(round);
-        let mut frames = sent(&bundles, frame_size, first);
+        let mut frames = sent(draft, &bundles, frame_size, first);
         for _ in 0..random.below(frames.len()) {
             let again = frames[random.below(frames.len())].clone();
             frames.push(again);
         }
         random.shuffle(&mut frames);
-        let received = received(&mut Receiver::new(), &frames);
+        let received = received(&mut Receiver::of_draft(draft), &frames);
         assert_eq!(received.len(), 16);
         let received: HashMap<_, _> = received
             .into_iter()
@@ -96,12 +99,13 @@ fn shuffled_and_repeated() {
 #[test]
 fn with_losses() {
     let mut random = Random(3);
-    for _ in 0..200 {
+    for round in 0..200 {
+        let draft = Draft::ALL[round % 2];
         let bundle = random.octets(1200);
-        let frames = sent(std::slice::from_ref(&bundle), 256, 40);
+        let frames = sent(draft, std::slice::from_ref(&bundle), 256, 40);
         let lost = random.below(frames.len());
         let arrived = [&frames[..lost], &frames[lost + 1..]].concat();
-        let mut receiver = Receiver::new();
+        let mut receiver = Receiver::of_draft(draft);
         assert_eq!(received(&mut receiver, &arrived), []);
         assert_eq!(receiver.window().rows[40 % 16].phase, Phase::Open);
 
@@ -118,17 +122,19 @@ fn with_losses() {
 
 #[test]
 fn cancelled() {
-    let mut sender = Sender::new(128, 9).unwrap();
-    let mut receiver = Receiver::new();
-    sender.place(&[7; 300]).unwrap();
-    receiver.receive(sender.frame()).unwrap();
-    sender.cancel().unwrap();
-    let mut frames = Vec::new();
-    let mut link = |frame: &[u8]| frames.push(frame.to_vec());
-    sender.send(&[8; 300], &mut link).unwrap();
-    sender.finish(link).unwrap();
-    let received = received(&mut receiver, &frames);
-    assert_eq!(received.len(), 1);
-    assert_eq!((received[0].number, received[0].octets[0]), (Some(10), 8));
-    assert_eq!(receiver.window().rows[9].phase, Phase::Cancelled);
+    for draft in Draft::ALL {
+        let mut sender = Sender::of_draft(draft, 128, 9).unwrap();
+        let mut receiver = Receiver::of_draft(draft);
+        sender.place(&[7; 300]).unwrap();
+        receiver.receive(sender.frame()).unwrap();
+        sender.cancel().unwrap();
+        let mut frames = Vec::new();
+        let mut link = |frame: &[u8]| frames.push(frame.to_vec());
+        sender.send(&[8; 300], &mut link).unwrap();
+        sender.finish(link).unwrap();
+        let received = received(&mut receiver, &frames);
+        assert_eq!(received.len(), 1);
+        assert_eq!((received[0].number, received[0].octets[0]), (Some(10), 8));
+        assert_eq!(receiver.window().rows[9].phase, Phase::Cancelled);
+    }
 }

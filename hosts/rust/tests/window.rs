@@ -1,9 +1,11 @@
 //! The window that is shown, against a known sequence of messages.
 
-use btpu::{Phase, Piece, Receiver, Row};
+use btpu::{Draft, Phase, Piece, Receiver, Row};
 
 const SEGMENT: u8 = 3;
 const END: u8 = 4;
+const START_00: u8 = 3;
+const SEGMENT_00: u8 = 4;
 
 /// A frame with one piece.
 fn piece(kind: u8, number: u32, index: u32, data: &[u8]) -> Vec<u8> {
@@ -69,6 +71,42 @@ fn every_phase() {
     assert_eq!(window.rows[0], row(0, Phase::Free));
     assert_eq!(window.rows[8], row(u32::MAX - 7, Phase::Free));
     assert_eq!(receiver.pool()[5 * 4096..][..4], *b"abc\x07");
+}
+
+/// Indexes fall to 0, and the start has the highest.
+#[test]
+fn of_draft_00() {
+    let mut receiver = Receiver::of_draft(Draft::Draft00);
+    let frames = [
+        piece(SEGMENT_00, 5, 1, b"abc"),
+        piece(SEGMENT_00, 5, 0, &[7; 300]),
+        piece(START_00, 6, 2, b""),
+        piece(SEGMENT_00, 6, 0, b"d"),
+        piece(START_00, 7, 64, b"e"),
+        piece(SEGMENT_00, 8, 2, b"f"),
+        piece(START_00, 8, 1, b"a segment has a higher index"),
+        piece(SEGMENT_00, 9, 0, b"ends"),
+        piece(START_00, 9, 1, b"starts and "),
+    ];
+    let bundles: Vec<_> = frames
+        .iter()
+        .flat_map(|frame| receiver.receive(frame).unwrap())
+        .collect();
+    assert_eq!(bundles.len(), 1);
+    assert_eq!(bundles[0].octets, b"starts and ends");
+    let window = receiver.window();
+    assert_eq!(window.greatest, Some(9));
+    let held = |index, length| Piece { index, length };
+    let mut open = row(5, Phase::Open);
+    open.pieces = vec![held(1, 3), held(0, 300)];
+    assert_eq!(window.rows[5], open);
+    let mut open = row(6, Phase::Open);
+    open.last = Some(2);
+    open.pieces = vec![held(2, 0), held(0, 1)];
+    assert_eq!(window.rows[6], open);
+    assert_eq!(window.rows[7], row(7, Phase::GivenUp));
+    assert_eq!(window.rows[8], row(8, Phase::GivenUp));
+    assert_eq!(window.rows[9], row(9, Phase::Done));
 }
 
 /// The window moves on over the greatest number, and rows that fall out of it are free again.

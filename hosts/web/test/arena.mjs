@@ -34,10 +34,12 @@ export const ARENA = Math.max(BURSTS, lay(FAR_PARTS));
 /** The functions, in the order of btpu.h, with their parameters: p a pointer, n a number of 64 bits, w one of 32. */
 export const FUNCTIONS = [
   ['btpu_receiver_start', 'p'],
+  ['btpu_receiver_start_00', 'p'],
   ['btpu_receiver_check', 'p'],
   ['btpu_receive', 'ppnpnnpnp'],
   ['btpu_receive_burst', 'ppnpnpnnnpnppppp'],
   ['btpu_sender_start', 'pnw'],
+  ['btpu_sender_start_00', 'pnw'],
   ['btpu_sender_check', 'p'],
   ['btpu_place', 'ppnpnp'],
   ['btpu_cancel', 'ppnp'],
@@ -46,7 +48,7 @@ export const FUNCTIONS = [
   ['btpu_recording_open', 'pnpp'],
   ['btpu_play', 'pnnpnpnpnpnpnp'],
 ];
-export const RECEIVE = 2;
+export const RECEIVE = 3;
 /** The parameter of btpu_receive that is the place. */
 export const PLACE = 5;
 /** Parameters of btpu_receive_burst. */

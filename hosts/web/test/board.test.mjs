@@ -7,11 +7,11 @@ import { Recorder } from '../btpu.mjs';
 import { writeHex } from '../frames.mjs';
 import { NOTHING, contentOf, departuresFrom, showing, tableOf } from '../timetable.mjs';
 import { chromium, serve } from './chromium.mjs';
-import { chain, here, leastContrast, message, natively, octets, piece, sample, temporary, unnamed, web } from './common.mjs';
+import { chain, here, leastContrast, message, natively, octets, piece, sample, sample00, temporary, unnamed, web } from './common.mjs';
 import { withStack } from './starve.mjs';
 
 const TALL = { width: 1600, height: 900 };
-const expected = natively(sample);
+const expected = natively(sample), expected00 = natively(sample00, '00');
 const firstEnd = expected.bundles[0].frame;
 const text = (words) => [...new TextEncoder().encode(words)];
 const bundle = (words) => Uint8Array.from(message(2, 0, text(words)));
@@ -89,7 +89,8 @@ function rowOf({ time, line, to, via, platform, remark }) {
 
 const click = (page, id) => page.evaluate(`document.getElementById('${id}').click()`);
 const keyOf = (name) => JSON.stringify(`btpu-board ${name}`);
-const nativelyShown = expected.bundles.reduce((all, { octets: hex }) => showing(all, octets(hex)), NOTHING);
+const showingAll = ({ bundles }) => bundles.reduce((all, { octets: hex }) => showing(all, octets(hex)), NOTHING);
+const nativelyShown = showingAll(expected), nativelyShown00 = showingAll(expected00);
 
 boardTest('a board that has received nothing waits', { name: 'waits' }, async (page) => {
   const { rows, empty, status, station, clock } = await shown(page);
@@ -135,6 +136,88 @@ boardTest('all frames at once: stored once, in order, and shown as the native li
     assert.equal(title, `Departures ${station}`);
     assert.ok(rows.length >= Math.min(5, coming.length));
     assert.deepEqual(rows, coming.slice(0, rows.length).map(rowOf));
+  }
+});
+
+const DRAFT_00 = 'in draft 00: reloaded in mid-transfer, and shown as the native library hands the bundles out';
+boardTest(DRAFT_00, { name: 'all-00', words: 'draft=00' }, async (page) => {
+  for (let k = 0; k < sample00.length; k += 13) {
+    await feed(page, sample00.slice(k, k + 13), { atOnce: true });
+    await reopen(page, address('all-00', 'draft=00&now=07:10'));
+  }
+  const { counts, kind } = await shown(page);
+  assert.equal(counts['Frames refused'], `${expected00.refused.length}`);
+  assert.equal(counts['Frames taken'], `${sample00.length - expected00.refused.length}`);
+  assert.equal(counts['Bundles handed out'], `${expected00.bundles.length}`);
+  assert.deepEqual([counts.Draft, kind], ['00', '']);
+  assert.ok(nativelyShown00.timetables.length > 4);
+  for (const { station } of nativelyShown00.timetables) {
+    await reopen(page, address('all-00', `draft=00&now=07:10&station=${encodeURIComponent(station)}`));
+    const { rows, notices } = await shown(page);
+    assert.ok(rows.length > 2);
+    assert.deepEqual(rows, departuresFrom(tableOf(nativelyShown00, station), '07:10').slice(0, rows.length).map(rowOf));
+    assert.deepEqual(notices, [...nativelyShown00.notices].reverse().slice(0, notices.length));
+  }
+});
+
+const OTHER_DRAFT = 'a board that is set to the other draft says so, keeps what it shows, and nothing is lost before a frame comes';
+boardTest(OTHER_DRAFT, { name: 'change' }, async (page) => {
+  const open = (words) => reopen(page, address('change', `now=07:10&${words}`));
+  await feed(page, sample.slice(0, firstEnd + 3));
+  const { rows } = await shown(page);
+  assert.ok(rows.length > 0);
+  await open('draft=00');
+  const told = 'This board was set to draft 02 before, and is set to draft 00 now. What was on the way is dropped: 1 transfer.';
+  const changed = await shown(page);
+  assert.deepEqual([changed.rows, changed.status, changed.kind, changed.counts.Draft], [rows, `${told} Last received 07:10.`, 'bad', '00']);
+  assert.match(changed.counts['On the way'], /^0 transfers/);
+  await open('draft=02'); // no frame has come
+  const back = await shown(page);
+  assert.deepEqual([back.rows, back.status, back.counts.Draft], [rows, 'Last received 07:10. More is on the way.', '02']);
+  await open('draft=00');
+  await feed(page, sample00.slice(0, 3));
+  assert.match((await shown(page)).status, /^This board was set to draft 02 before/);
+  await feed(page, sample00.slice(3), { atOnce: true });
+  const { status, counts } = await shown(page);
+  assert.equal(status, 'Last received 07:10.');
+  assert.equal(counts['Bundles handed out'], `${1 + expected00.bundles.length}`);
+  await open('draft=00');
+  assert.equal((await shown(page)).status, 'Last received 07:10.');
+  await open(''); // draft 02, where none is named
+  assert.match((await shown(page)).status, /^This board was set to draft 00 before, and is set to draft 02 now\. .* 0 transfers\./);
+});
+
+const FILES_00 = 'in draft 00: the sample, a file of hex lines, no recording, and forgetting all';
+boardTest(FILES_00, { name: 'files-00', words: 'draft=00&now=07:10&demo' }, async (page) => {
+  const taken = async () => Number((await shown(page)).counts['Frames taken']);
+  await page.until(`document.querySelectorAll('#departures tbody tr').length > 3`);
+  await reopen(page, address('files-00', 'draft=00&now=07:10'));
+  const before = await taken();
+  await give(page, 'good.hex', writeHex(sample00.slice(0, 5)));
+  assert.equal(await taken(), before + 5);
+  await give(page, 'frames.rec', (await Recorder.create()).record(sample));
+  assert.equal(await taken(), before + 5);
+  const { status, kind } = await shown(page);
+  assert.match(status, /^The file was not taken: a recording is draft 02, and this board is set to draft 00\. Last received/);
+  assert.equal(kind, 'bad');
+  await click(page, 'forget');
+  await click(page, 'forget');
+  await page.until(`document.querySelectorAll('#departures tbody tr').length === 0`);
+  const first = expected00.bundles[0].frame + 1;
+  await feed(page, sample00.slice(0, first));
+  assert.deepEqual([await taken(), (await shown(page)).counts['Bundles handed out'], (await shown(page)).counts.Draft], [first, '1', '00']);
+});
+
+test('a draft that there is not is told, and the board does not begin', { timeout: 30000 }, async () => {
+  for (const draft of ['01', '2', '']) {
+    const page = await browser.page(address('no-draft', `draft=${draft}`), TALL);
+    try {
+      await ready(page);
+      assert.equal(await page.evaluate('document.body.dataset.ready'), 'failed');
+      assert.equal((await shown(page)).status, "This board does not work: a draft is '00' or '02'.");
+    } finally {
+      await page.close();
+    }
   }
 });
 

@@ -24,9 +24,9 @@ export function nativeProgram(file) {
   return program;
 }
 
-/** What the native library makes of frames: bundles, refused frames, and the window at the end. */
-export function natively(frames) {
-  const out = execFileSync(nativeProgram(path.join(here, 'play.c')), { input: writeHex(frames), maxBuffer: 1 << 28 }).toString();
+/** What the native library makes of frames of a draft: bundles, refused frames, and the window at the end. */
+export function natively(frames, draft = '02') {
+  const out = execFileSync(nativeProgram(path.join(here, 'play.c')), [draft], { input: writeHex(frames), maxBuffer: 1 << 28 }).toString();
   const lines = out.trim().split('\n').map((line) => line.split(' '));
   return {
     bundles: lines.filter(([kind]) => kind === 'bundle').map(([, frame, number, octets = '']) => ({ frame: +frame, number, octets })),
@@ -36,12 +36,20 @@ export function natively(frames) {
 }
 
 export const octets = (hex) => Uint8Array.from(Buffer.from(hex.replace(/ /g, ''), 'hex'));
-export const sample = readHex(fs.readFileSync(path.join(web, 'sample.hex'), 'utf8')).frames;
+const sampleIn = (file) => readHex(fs.readFileSync(path.join(web, file), 'utf8')).frames;
+export const sample = sampleIn('sample.hex');
+export const sample00 = sampleIn('sample-00.hex');
 
 // Messages of document 01, as octets.
 const be32 = (x) => [x >>> 24, (x >>> 16) & 255, (x >>> 8) & 255, x & 255];
 export const message = (type, flags, content) => [type, flags | (content.length >>> 16), (content.length >>> 8) & 255, content.length & 255, ...content];
 export const piece = (end, number, index, data, hints = []) => message(end ? 4 : 3, hints.length ? 128 : 0, [...hints, ...be32(number), ...be32(index), ...data]);
+/** In draft 00: a start, or a segment. */
+export const piece00 = (start, number, index, data) => message(start ? 3 : 4, 0, [...be32(number), ...be32(index), ...data]);
+/** The k-th of so many pieces, as they are joined, from 0: the last one has the highest index; in draft 00 the first one. */
+export function pieceIn(draft, number, k, count, data) {
+  return draft === '00' ? piece00(k === 0, number, count - 1 - k, data) : piece(k === count - 1, number, k, data);
+}
 export const cancel = (number) => message(5, 0, be32(number));
 /** A chain of so many hints without a value; the longest that a frame has room for has 1,022. */
 export const chain = (count) => Array.from({ length: count }, (_, k) => [k + 1 < count ? 3 : 2, 0]).flat();

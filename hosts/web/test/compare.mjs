@@ -2,6 +2,9 @@
 // the number returned, and the octets of the arena. For node and browsers.
 import { BURST, FUNCTIONS, NONE, OP, PLACE } from './arena.mjs';
 
+/** Octets of the images: the draft of a receiver, whether a sender has a transfer begun, and its draft. */
+const RECEIVER_DRAFT = 2, SENDER_BEGUN = 8, SENDER_DRAFT = 9;
+const NO_NUMBER = 2n ** 32n;
 const ANSWERING = ['btpu_receive', 'btpu_receive_burst', 'btpu_place', 'btpu_cancel', 'btpu_flush'];
 
 /** The module's stack, at the bottom of its memory. */
@@ -53,6 +56,8 @@ class Comparison {
   answers = Object.fromEntries(ANSWERING.map((name) => [name, {}]));
   /** By number: how often a frame of a burst was passed over for this refusal. */
   passed = {};
+  /** In draft 00: transfers handed out by btpu_receive, and calls of btpu_place after which a transfer is begun. */
+  draft00 = { received: 0, begun: 0 };
   /** Octets of the stack used at most by the calls of each kind of section. */
   stack = [0, 0, 0];
   #section = 0;
@@ -85,8 +90,8 @@ class Comparison {
     if (this.difference === null) this.#compare(this.words.length);
     if (this.difference === null && !this.native.ended) this.difference = 'there are more answers than calls';
     if (this.difference === null) this.#outside();
-    const { difference, frames, calls, bundles, refusals, answers, passed, stack } = this;
-    return { difference, frames, calls, bundles, refusals, answers, passed, stack };
+    const { difference, frames, calls, bundles, refusals, answers, passed, draft00, stack } = this;
+    return { difference, frames, calls, bundles, refusals, answers, passed, draft00, stack };
   }
 
   #operation(operation) {
@@ -129,6 +134,7 @@ class Comparison {
       const burst = name === 'btpu_receive_burst', answer = this.#answer(burst, words);
       this.#count(which, answer);
       if (burst && answer !== null) this.#countBurst(words);
+      this.#countDraft00(name, answer, this.memory.subarray(Number(words[0])));
       if (!whole || answer === null || answer === 0 || (!burst && answer !== 1)) return;
       if (burst) [words[BURST.frame], words[BURST.place]] = [this.result.getBigUint64(16, true), this.result.getBigUint64(24, true)];
       else words[PLACE] = this.result.getBigUint64(16, true);
@@ -149,6 +155,13 @@ class Comparison {
       const number = this.view.getUint32(Number(words[BURST.reasons]) + 4 * k, true);
       this.passed[number] = (this.passed[number] ?? 0) + 1;
     }
+  }
+
+  #countDraft00(name, answer, image) {
+    const { draft00 } = this;
+    const received = name === 'btpu_receive' && answer === 1 && this.result.getBigUint64(24, true) !== NO_NUMBER;
+    if (received && image[RECEIVER_DRAFT] === 1) draft00.received++;
+    if (name === 'btpu_place' && answer !== null && image[SENDER_DRAFT] === 1) draft00.begun += image[SENDER_BEGUN];
   }
 
   #word(kind, n) {

@@ -4,10 +4,10 @@ import fs from 'node:fs';
 import path from 'node:path';
 import test, { after, before, beforeEach } from 'node:test';
 import { Recorder, Sender } from '../btpu.mjs';
-import { hexOf, overLink, writeHex } from '../frames.mjs';
+import { hexOf, overLink, readHex, writeHex } from '../frames.mjs';
 import { NOTHING, departuresFrom, showing, tableOf } from '../timetable.mjs';
 import { chromium, serve } from './chromium.mjs';
-import { chain, leastContrast, message, natively, octets, sample, temporary, unnamed, web } from './common.mjs';
+import { chain, leastContrast, message, natively, octets, sample, sample00, temporary, unnamed, web } from './common.mjs';
 import { withStack } from './starve.mjs';
 
 const GOOD = { seed: 1, lose: 0, double: 0, shuffle: 0, damage: 0 };
@@ -23,8 +23,8 @@ before(async () => {
   page = await browser.page(`${site.address}/desk.html`, LARGE);
   await page.until('document.body.dataset.ready');
 });
-// No limit and a good link, from the next frames on that are loaded.
-beforeEach(() => set({ ...GOOD, limit: '' }));
+// No limit, a good link and draft 02, from the next frames on that are loaded.
+beforeEach(() => set({ ...GOOD, limit: '', draft: '02' }));
 after(async () => {
   await browser?.close();
   site?.close();
@@ -55,6 +55,17 @@ const toTheEnd = async () => {
   await idle();
 };
 const seek = (place) => put('seek', place, 'input');
+const savesAs = (words) => page.until(`document.getElementById('save').textContent === 'Save as ${words}'`);
+const useDraft00 = async () => {
+  await put('draft', '00', 'change');
+  await savesAs('hex lines');
+};
+/** The files that the page offers for download, from now on. */
+const catchSaved = () => page.evaluate(`{
+  window.createURL ??= URL.createObjectURL.bind(URL);
+  URL.createObjectURL = (blob) => window.createURL(window.saved = blob);
+}`);
+const saved = async () => Uint8Array.from(await page.evaluate(`window.saved.arrayBuffer().then((buffer) => [...new Uint8Array(buffer)])`));
 const useLink = async (link) => {
   await set(link);
   await put('seed', link.seed, 'input');
@@ -77,10 +88,10 @@ async function open(name, content) {
 }
 
 /** The sample over a link, at its start. */
-async function begin(link) {
-  await open('sample.hex', writeHex(sample));
+async function begin(link, frames = sample) {
+  await open('sample.hex', writeHex(frames));
   await useLink(link);
-  return overLink(sample, link);
+  return overLink(frames, link);
 }
 
 // ---- what the page shows
@@ -89,9 +100,10 @@ const SHOWN = `(() => {
   const all = (selector) => [...document.querySelectorAll(selector)];
   const text = (id) => document.getElementById(id).textContent;
   const list = (id) => all('#' + id + ' > li').reverse().map((li) => ({ ...li.dataset }));
-  const places = (row, kind) => [...row.querySelectorAll('.p')].flatMap((cell, k) => (cell.classList.contains(kind) ? [k] : []));
+  const indexes = (row, kind) => [...row.querySelectorAll('.p' + kind)].map((cell) => +/^piece (\\d+)/.exec(cell.title)[1]);
   const row = (tr) => ({ row: +tr.cells[0].textContent, number: tr.cells[1].textContent, phase: tr.cells[2].textContent,
-    octets: tr.cells[4].textContent.replaceAll(',', ''), here: places(tr, 'have'), missing: places(tr, 'miss'), last: places(tr, 'last') });
+    octets: tr.cells[4].textContent.replaceAll(',', ''), all: indexes(tr, ''), here: indexes(tr, '.have'), missing: indexes(tr, '.miss'),
+    last: indexes(tr, '.last'), more: [...tr.querySelectorAll('.cells > *')].findIndex((cell) => cell.className === 'more') });
   return {
     bundles: list('bundles'), refused: list('refused'), rows: all('#window tbody tr').map(row),
     labels: all('#window tbody [role=img]').map((cells) => cells.getAttribute('aria-label')),
@@ -105,14 +117,15 @@ const SHOWN = `(() => {
 })()`;
 const shown = () => page.evaluate(SHOWN);
 
-/** The rows of the window as the page shows them, from the native state. */
-const rowsOf = (rows) => rows.map(({ row, number, phase, last, pieces }) => {
-  const open = phase === 'open', here = open ? pieces.map((p) => p.index).sort((a, b) => a - b) : [];
-  const length = open ? (last ?? Math.max(-1, ...here)) + 1 : 0;
+/** The rows of the window as the page shows them, from the native state: indexes rise; in draft 00 they fall. */
+const rowsOf = (rows, draft) => rows.map(({ row, number, phase, last, pieces }) => {
+  const open = phase === 'open', held = open ? pieces.map((p) => p.index) : [], length = open ? (last ?? Math.max(-1, ...held)) + 1 : 0;
+  const all = Array.from({ length }, (_, k) => (draft === '00' ? length - 1 - k : k));
   return {
     row, number: number === null ? '–' : `${number}`, phase,
     octets: open ? `${pieces.reduce((sum, p) => sum + p.length, 0)}` : '',
-    here, missing: Array.from({ length }, (_, k) => k).filter((k) => !here.includes(k)), last: open && last !== null ? [last] : [],
+    all, here: all.filter((k) => held.includes(k)), missing: all.filter((k) => !held.includes(k)), last: open && last !== null ? [last] : [],
+    more: !open || last !== null ? -1 : draft === '00' ? 0 : length,
   };
 });
 
@@ -127,12 +140,12 @@ function boardOf(bundles, station, time) {
 }
 
 /** Holds what the page shows to what the native library makes of the arrivals up to a place. */
-async function hold(arrivals, place = arrivals.length, { station = '', time = '06:00' } = {}) {
+async function hold(arrivals, place = arrivals.length, { station = '', time = '06:00', draft = '02' } = {}) {
   const is = await shown(), came = [...arrivals.keys()].filter((k) => k < place && !arrivals[k].lost);
-  const { bundles, refused, rows } = natively(came.map((k) => arrivals[k].frame)), bad = refused.map((r) => came[r.frame]);
+  const { bundles, refused, rows } = natively(came.map((k) => arrivals[k].frame), draft), bad = refused.map((r) => came[r.frame]);
   assert.deepEqual(is.bundles, bundles.map((b) => ({ number: b.number, octets: b.octets, frame: `${came[b.frame]}` })));
   assert.deepEqual(is.refused, refused.map((r) => ({ number: r.number, place: r.place, frame: `${came[r.frame]}` })));
-  assert.deepEqual(is.rows, rowsOf(rows));
+  assert.deepEqual(is.rows, rowsOf(rows, draft));
   assert.deepEqual(is.fates, arrivals.map((a, k) => (k >= place ? '' : a.lost ? 'lost' : bad.includes(k) ? 'refused' : 'taken')));
   assert.deepEqual({ departures: is.departures, notices: is.notices }, boardOf(bundles, station, time));
   const lost = arrivals.slice(0, place).filter((a) => a.lost).length;
@@ -316,19 +329,76 @@ test('files that are neither hex nor a recording are refused in words, and chang
 
 test('saved as a recording: the frames that came over the link', async () => {
   const arrivals = await begin(BAD);
-  await page.evaluate(`{
-    const make = URL.createObjectURL.bind(URL);
-    URL.createObjectURL = (blob) => make(window.saved = blob);
-  }`);
+  await catchSaved();
   await click('save');
   await says('/saved as a recording/');
-  const saved = await page.evaluate(`window.saved.arrayBuffer().then((buffer) => [...new Uint8Array(buffer)])`);
-  assert.deepEqual(recorder.open(Uint8Array.from(saved)), arrivals.filter((a) => !a.lost).map((a) => a.frame));
+  assert.deepEqual(recorder.open(await saved()), arrivals.filter((a) => !a.lost).map((a) => a.frame));
   await useLink(GOOD);
   await open('many.hex', writeHex(Array(1025).fill(octets('0200000141'))));
   await click('save');
   await says('/Not saved/');
   assert.match(await status(), /1,025 frames.*refusal 17: more than 1,024 frames or 61,440 octets/);
+});
+
+const wordsOfTheKey = () => page.evaluate(`[...document.querySelectorAll('.key .final')].map((word) => word.textContent)`);
+
+test('in draft 00 the desk shows what the native library makes of the frames, with the start in place of the last piece', async () => {
+  await useDraft00();
+  await click('sample');
+  await says(`/^${sample00.length} frames ready/`);
+  await toTheEnd();
+  await hold(overLink(sample00, GOOD), undefined, { draft: '00' });
+  for (const link of [BAD, { ...GOOD, seed: 5, lose: 22, shuffle: 9 }]) {
+    const arrivals = await begin(link, sample00), labels = [];
+    for (const place of [9, 33, 57, 100, 12, arrivals.length]) {
+      await seek(place);
+      labels.push(...(await hold(arrivals, place, { draft: '00' })).labels);
+    }
+    assert.ok(labels.some((label) => /^\d+ pieces? here, the start is not known/.test(label)), labels.join('\n'));
+    assert.ok(labels.some((label) => /^\d+ pieces? here of \d+; missing \d/.test(label)), labels.join('\n'));
+  }
+  assert.deepEqual(await wordsOfTheKey(), ['start', 'start']);
+  await put('draft', '02', 'change');
+  await savesAs('recording');
+  assert.deepEqual(await wordsOfTheKey(), ['last piece', 'last piece']);
+  await useLink(GOOD);
+  await toTheEnd();
+  await hold(overLink(sample00, GOOD)); // the same lines, read as draft 02
+});
+
+test('a recording is draft 02: a desk set to draft 00 is set to draft 02 for it, and says so', async () => {
+  const draft = () => page.evaluate(`document.getElementById('draft').value`), frames = sample.slice(0, 40);
+  await useDraft00();
+  await open('forty.recording', recorder.record(frames));
+  assert.equal(await status(), 'A recording is draft 02: the desk was set to draft 00, and is set to draft 02 now. 40 frames ready.');
+  assert.equal(await draft(), '02');
+  await toTheEnd();
+  await put('draft', '00', 'change');
+  assert.equal(await status(), 'A recording is draft 02: the desk stays set to draft 02 until other frames are loaded.');
+  assert.equal(await draft(), '02');
+  await hold(overLink(frames, GOOD));
+  await open('forty.recording', recorder.record(frames));
+  assert.equal(await status(), '40 frames ready.');
+  await paste(['0200000141']);
+  await useDraft00();
+});
+
+test('frames of draft 00 are saved as hex lines, and it is said why; bundles are cut in the draft of the desk', async () => {
+  const notice = 'A long notice. '.repeat(40).trim(), texts = [notice, 'Short'];
+  await useDraft00();
+  await set({ texts: texts.join('\n---\n'), first: 7, size: 128 });
+  await click('cut');
+  await says('/^2 bundles cut into \\d+ frames/');
+  await toTheEnd();
+  assert.deepEqual((await shown()).bundles.map((b) => [b.number, Buffer.from(b.octets, 'hex').toString()]), [['7', notice], ['-', 'Short']]);
+  await catchSaved();
+  await click('save');
+  await says('/saved as hex lines/');
+  const { frames, faults } = readHex(Buffer.from(await saved()).toString());
+  assert.equal(await status(), `${frames.length} frames of draft 00 saved as hex lines, since a recording is draft 02.`);
+  assert.deepEqual(faults, []);
+  assert.deepEqual(frames.slice(0, 2).map((frame) => hexOf(frame.subarray(0, 12))), ['0300007c0000000700000005', '0400007c0000000700000004']);
+  await hold(overLink(frames, GOOD), undefined, { draft: '00' });
 });
 
 /** Loads a long file, goes to its end and to and fro; answers how long the page did not answer at most. */
@@ -366,7 +436,7 @@ test('20,000 frames: the page answers all the time, and shows a part of the stri
   assert.match(await textOf('page'), /of 20,000$/);
   assert.equal(is.bundles.length, 100);
   assert.match(await textOf('more-bundles'), /^and [\d,]+ more before these$/);
-  assert.deepEqual(is.rows, rowsOf(natively(frames.slice(0, 9000)).rows));
+  assert.deepEqual(is.rows, rowsOf(natively(frames.slice(0, 9000)).rows, '02'));
 });
 
 test('steps in quick succession each count, while the seek before still goes on', async () => {
@@ -498,6 +568,31 @@ test('frames passed on are shown by the board in another tab, each once', async 
   } finally {
     await page.evaluate(`document.getElementById('send').checked = false`);
     await board.close();
+  }
+});
+
+test('frames are passed on to boards of their own draft alone', async () => {
+  const address = (draft) => `${site.address}/board.html?now=07:10&board=desk-${draft}&draft=${draft}`;
+  const boards = await Promise.all(['00', '02'].map((draft) => browser.page(address(draft))));
+  const taken = (board) => board.evaluate(`document.querySelector('#counts dd').textContent`);
+  try {
+    for (const board of boards) await board.until('document.body.dataset.ready');
+    await useDraft00();
+    await begin(GOOD, sample00);
+    await page.evaluate(`document.getElementById('send').checked = true`);
+    await toTheEnd();
+    const good = sample00.length - natively(sample00, '00').refused.length;
+    await boards[0].until(`document.querySelector('#counts dd').textContent === '${good}'`);
+    assert.ok(await boards[0].evaluate(`document.querySelectorAll('#departures tbody tr').length > 3`));
+    await paste(['0200000141']);
+    await put('draft', '02', 'change');
+    await savesAs('recording');
+    await toTheEnd();
+    await boards[1].until(`document.querySelector('#counts dd').textContent !== '0'`);
+    assert.deepEqual(await Promise.all(boards.map(taken)), [`${good}`, '1']);
+  } finally {
+    await page.evaluate(`document.getElementById('send').checked = false`);
+    for (const board of boards) await board.close();
   }
 });
 

@@ -1,7 +1,7 @@
 // Operations for a test, from a seed: frames for a receiver with wrong lengths, wrong places and images that are not sound; for
 // bursts, for a sender and for recordings likewise.
 import { ARENA, at, FUNCTIONS, NEAR, NONE, OP, RECEIVE, room } from './arena.mjs';
-import { piece } from './common.mjs';
+import { piece, pieceIn } from './common.mjs';
 import { be16, be32, damaged, GREATEST, Random, randomFrame, someFrames, traffic } from './random-frames.mjs';
 import { soundRow, UNSOUND } from './random-rows.mjs';
 
@@ -83,6 +83,9 @@ const BEYOND = 1n << 32n;
 /** A part and its length; without a pointer at times where the length is 0. */
 const orNone = (r, name, length) => [length === 0 && r.once(2) ? NONE : at[name], length];
 
+/** The function that starts a receiver or a sender of a draft. */
+const startOf = (which, { draft }) => `${which}_start${draft === '00' ? '_00' : ''}`;
+
 // ---- receiver
 
 /** A call from any place, with wrong lengths at times. */
@@ -134,11 +137,11 @@ function startReceiver(r, o, run) {
   o.put(at.pool, r.octets(4096));
   o.fill(at.state, room.state, r.next() & 255);
   o.call('receiver_check', at.state);
-  o.call('receiver_start', at.state);
+  o.call(startOf('receiver', run), at.state);
   o.call('receiver_check', at.state);
   if (r.once(2)) return;
   const rows = Array.from({ length: 16 }, () => soundRow(r));
-  o.put(at.state, [1, 0, 0, 0, ...be32(run.base), ...rows.flat()]);
+  o.put(at.state, [1, 0, run.draft === '00' ? 1 : 0, 0, ...be32(run.base), ...rows.flat()]);
   o.call('receiver_check', at.state);
   checkUnsound(r, o, rows);
 }
@@ -160,12 +163,13 @@ function receiving(r, o, run, frames) {
 
 // ---- sender
 
-function startSender(r, o, size) {
+function startSender(r, o, run, size) {
+  const start = startOf('sender', run);
   const first = r.once(3) ? 0xffffffff - r.below(4) : r.next();
   o.fill(at.senderState, room.senderState, r.next() & 255);
   o.call('sender_check', at.senderState);
-  if (r.once(6)) o.call('sender_start', at.senderState, r.pick([0, 127, 2049, 65536 + size, BEYOND + BigInt(size)]), first);
-  o.call('sender_start', at.senderState, size, first);
+  if (r.once(6)) o.call(start, at.senderState, r.pick([0, 127, 2049, 65536 + size, BEYOND + BigInt(size)]), first);
+  o.call(start, at.senderState, size, first);
 }
 
 /** A call of one of the three functions, with wrong lengths at times. */
@@ -187,8 +191,14 @@ function turnedSend(r, o, name, size, bundle) {
   o.turn(...turned, OP.turnBack);
 }
 
+/** The length of a bundle whose pieces fill whole frames, from an empty one on. */
+const evenLength = (r, size) => (size - 12) * (2 + r.below(Math.floor(4096 / (size - 12)) - 1));
+
 function sendBundle(r, o, size) {
-  const length = r.once(12) ? r.pick([0, 1, 4096, 4097]) : r.below(r.once(2) ? 300 : 4096);
+  const even = r.once(4);
+  if (even) send(r, o, 'flush', size, []);
+  const any = r.once(12) ? r.pick([0, 1, 4096, 4097]) : r.below(r.once(2) ? 300 : 4096);
+  const length = even ? evenLength(r, size) : any;
   const bundle = r.octets(length), stopped = r.once(6);
   const enough = 1 + Math.ceil(length / (size - 12)) + r.below(2);
   o.put(at.bundle, bundle);
@@ -201,10 +211,10 @@ function sendBundle(r, o, size) {
   for (let n = r.below(3); n > 0; n--) turnedSend(r, o, r.pick(['place', 'cancel', 'flush']), size, bundle);
 }
 
-function sending(r, o) {
+function sending(r, o, run) {
   const size = r.once(6) ? r.pick([128, 129, 2047, 2048]) : 128 + r.below(r.once(2) ? 200 : 1921);
   o.put(at.senderFrame, r.octets(64));
-  startSender(r, o, size);
+  startSender(r, o, run, size);
   for (let n = 0; n < 5; n++) sendBundle(r, o, size);
   send(r, o, 'flush', size, []);
   send(r, o, 'flush', size, []);
@@ -341,7 +351,7 @@ const BURSTS = [
   (r, run) => someDamaged(r, traffic(r, run, 1 + r.below(12))),
   (r, run) => many(r, () => (r.once(3) ? r.pick([...MALFORMED, [0], r.octets(r.below(12))]) : damaged(r, randomFrame(r, run)))),
   (r, run) => [...MALFORMED, ...GREATEST.map((make) => make(r, run)), randomFrame(r, run)], // the most stack; one that is too long
-  (r, run) => many(r, (k) => piece(k % 2 === 1, run.base + (k >> 1), k % 2, r.octets(2000 + r.below(37)))), // the output fills
+  (r, run) => many(r, (k) => pieceIn(run.draft, run.base + (k >> 1), k % 2, 2, r.octets(2000 + r.below(37)))), // the output fills
   (r) => Array.from({ length: 1 + r.below(4) }, () => Array(r.pick([64, 255, 256, 257, 512])).fill([2, 0, 0, 0]).flat()), // the lists fill
   (r) => many(r, () => [1 + r.below(9), ...r.octets(r.below(4))]), // most are refused
   (r) => many(r, () => Array(r.pick([2048, 2048, 1 + r.below(40)])).fill(0)), // padding, and the most octets
@@ -422,18 +432,19 @@ function bursts(r, o, run, make) {
   if (r.once(2)) o.whole('receive_burst', ...burstWords(r, { ...right, output: 65536, start: burstStart(r, frames) }));
 }
 
-/** Operations with at least so many frames for a receiver. */
+/** Operations with at least so many frames for a receiver. All kinds are gone through in draft 02, then in draft 00, and so on. */
 export function generate(seed, frames) {
-  const r = new Random(seed), o = new Operations();
+  const r = new Random(seed), o = new Operations(), kinds = RECORDED.length;
   o.put(0, r.octets(ARENA));
-  for (let k = 0; o.frames < frames || k < RECORDED.length; k++) {
-    const run = { base: r.once(4) ? (0xfffffff8 + r.below(16)) >>> 0 : r.next(), manner: k % 4 };
+  for (let k = 0; o.frames < frames || k < 2 * kinds; k++) {
+    const base = r.once(4) ? (0xfffffff8 + r.below(16)) >>> 0 : r.next();
+    const run = { base, manner: k % 4, draft: Math.floor(k / kinds) % 2 === 0 ? '02' : '00' };
     o.section(0);
     receiving(r, o, run, k === 0 ? GREATEST.map((make) => make(r, run)) : someFrames(r, run, 40));
     o.section(2);
     bursts(r, o, run, BURSTS[k % BURSTS.length]);
     o.section(0);
-    sending(r, o);
+    sending(r, o, run);
     o.section(1);
     recordings(r, o, run, RECORDED[k] ?? (r.once(6) ? r.pick(RECORDED) : r.pick(RECORDED.slice(0, 3))));
   }

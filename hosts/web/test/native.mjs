@@ -24,10 +24,12 @@ export function prepare() {
 /** The refusals that each function gives, by btpu.h; 5 is never given. */
 const REFUSALS = {
   btpu_receiver_start: [],
+  btpu_receiver_start_00: [],
   btpu_receiver_check: [1],
   btpu_receive: [1, 2, 3, 4, 6, 7, 8, 9],
   btpu_receive_burst: [1, 2, 3, 9, 19],
   btpu_sender_start: [14],
+  btpu_sender_start_00: [14],
   btpu_sender_check: [1],
   btpu_place: [1, 10, 11, 12],
   btpu_cancel: [1, 10, 13],
@@ -54,6 +56,8 @@ export function judge(name, found) {
   assert.deepEqual(seen(found.refusals), REFUSALS, `refusals, seed ${seed}`);
   assert.deepEqual(seen(found.answers), ANSWERS, `answers, seed ${seed}`);
   assert.deepEqual(Object.keys(found.passed).map(Number), PASSED, `frames passed over in bursts, seed ${seed}`);
+  const { received, begun } = found.draft00;
+  assert.ok(received > frames / 400 && begun > frames / 40, `draft 00, seed ${seed}: ${received} transfers handed out, ${begun} begun`);
   const [receiving, playing, bursts] = found.stack;
   // The longest chain of hints takes the most stack: less shows that it was not among the frames.
   assert.ok(receiving > 30000 && playing > 90000 && bursts > 40000, `stack used: ${found.stack}`);

@@ -19,12 +19,13 @@ for (const name of ['btpu.wasm', 'btpu-plain.wasm', 'btpu64.wasm']) {
     console.log(judge(`node ${process.version}, ${name}`, compare(instance, operations, answers)));
   });
 
-  test(`${name} takes frames with reserved flag bits`, { skip }, async () => {
-    const receiver = await Receiver.create(octets);
+  test(`${name} takes frames with reserved flag bits; in draft 00, which has no flags, it refuses them`, { skip }, async () => {
+    const receiver = await Receiver.create(octets), receiver00 = await Receiver.create({ draft: '00' }, octets);
     for (const flags of [0x10, 0x20, 0x40, 0x70]) {
-      const { bundles, refusal } = receiver.receive(Uint8Array.from(message(2, flags, [flags, 7])));
+      const frame = Uint8Array.from(message(2, flags, [flags, 7])), { bundles, refusal } = receiver.receive(frame);
       assert.equal(refusal, null);
       assert.deepEqual(bundles, [{ number: null, octets: Uint8Array.of(flags, 7) }]);
+      assert.equal(receiver00.receive(frame).refusal?.number, 6);
     }
   });
 }

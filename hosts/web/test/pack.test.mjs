@@ -6,7 +6,7 @@ import path from 'node:path';
 import test, { after, before } from 'node:test';
 import { pathToFileURL } from 'node:url';
 import { chromium } from './chromium.mjs';
-import { natively, sample, temporary, web } from './common.mjs';
+import { natively, sample, sample00, temporary, web } from './common.mjs';
 
 const out = path.join(temporary, 'packed');
 const fileAddress = (name, words = '') => `${pathToFileURL(path.join(out, name))}${words}`;
@@ -55,15 +55,17 @@ test('the board from file: plays the sample, keeps its state over a reload and n
   });
 });
 
-test('the desk from file: runs the sample to its end', { timeout: 30000 }, async () => {
-  await withPage(fileAddress('desk.html'), async (page) => {
-    await page.evaluate(`document.getElementById('sample').click()`);
-    await page.until(`!document.getElementById('end').disabled`);
-    await page.evaluate(`document.getElementById('end').click()`);
-    const { bundles } = natively(sample);
-    await page.until(`document.querySelectorAll('#bundles > li').length === ${bundles.length}`);
+for (const [draft, frames] of [['02', sample], ['00', sample00]]) {
+  test(`the desk from file: runs the sample of draft ${draft} to its end`, { timeout: 30000 }, async () => {
+    await withPage(fileAddress('desk.html'), async (page) => {
+      await page.evaluate(`document.getElementById('draft').value = '${draft}'; document.getElementById('sample').click()`);
+      await page.until(`!document.getElementById('end').disabled`);
+      await page.evaluate(`document.getElementById('end').click()`);
+      const { bundles } = natively(frames, draft);
+      await page.until(`document.querySelectorAll('#bundles > li').length === ${bundles.length}`);
+    });
   });
-});
+}
 
 /** Packs a copy of the folder that was changed, and answers the words and status. */
 function packChanged(name, change) {

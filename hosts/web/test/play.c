@@ -1,6 +1,8 @@
 /*
- * Plays frames, one a line in hex, through the native library: a line for each bundle and each refused frame, at the end one with the
- * state's image.
+ * Plays frames of a draft, one a line in hex, through the native library: a line for each bundle and each refused frame, at the end one
+ * with the state's image.
+ *
+ *     play 00|02
  *
  *     bundle FRAME NUMBER|- OCTETS
  *     refused FRAME REFUSAL PLACE|-
@@ -39,10 +41,13 @@ static void take(unsigned k, uint64_t length)
     }
 }
 
-int main(void)
+int main(int count, char **arguments)
 {
     static char line[2 * sizeof frame + 3];
-    btpu_receiver_start(state);
+    if (count != 2) return 2;
+    if (strcmp(arguments[1], "00") == 0) btpu_receiver_start_00(state);
+    else if (strcmp(arguments[1], "02") == 0) btpu_receiver_start(state);
+    else return 2;
     for (unsigned k = 0; fgets(line, sizeof line, stdin); k++) {
         size_t length = strcspn(line, "\n") / 2;
         for (size_t i = 0; i < length; i++) {

@@ -1,6 +1,6 @@
 // Frames from random numbers: of random messages; of bundles in pieces that were lost, doubled and put out of order; the greatest
 // of each kind; and damaged ones.
-import { cancel, chain, message, piece } from './common.mjs';
+import { cancel, chain, message, piece, pieceIn } from './common.mjs';
 
 export const be16 = (n) => [n >> 8, n & 255];
 export const be32 = (n) => [n >>> 24, (n >>> 16) & 255, (n >>> 8) & 255, n & 255];
@@ -46,20 +46,22 @@ function hints(r, count) {
   }).flat();
 }
 
-/** A message of any type. `run` holds the transfer numbers in use, and in which manner they go on. */
+/** A message of any type. `run` holds the transfer numbers in use, in which manner they go on, and the draft; draft 02 if none. */
 function randomMessage(r, run) {
-  const type = r.pick([0, 1, 2, 3, 3, 3, 3, 4, 4, 5, 6 + r.below(250)]);
+  const [segment, final] = run.draft === '00' ? [4, 3] : [3, 4], transfer = [segment, segment, segment, segment, final, final, 5];
+  const type = r.pick([0, 1, 2, ...transfer, 6 + r.below(250)]);
   if (type === 0) return Array(1 + r.below(4)).fill(0);
-  const before = type <= 5 && r.once(4) ? hints(r, 1 + r.below(4)) : [];
+  const flagged = run.draft !== '00' || r.once(80); // a frame of draft 00 with flags is refused
+  const before = flagged && type <= 5 && r.once(4) ? hints(r, 1 + r.below(4)) : [];
   if (r.once(30)) run.base = (run.base + [1, r.below(40), r.next(), 2][run.manner]) >>> 0;
   else if (r.once(6)) run.base = (run.base + 1) >>> 0;
   const far = r.once(60) ? 0x80000000 + r.below(40) - 20 : 0; // half a turn of the numbers away, where old and new part
   const number = (run.base + far - r.below(run.manner === 0 ? 3 : 18)) >>> 0;
-  const reserved = r.once(4) ? r.below(8) << 4 : 0;
+  const reserved = flagged && r.once(4) ? r.below(8) << 4 : 0;
   const flags = (before.length > 0 ? 128 : 0) | reserved;
   if (type === 5) return message(5, flags, [...before, ...be32(number)]);
   if (type < 3 || type > 5) return message(type, flags, [...before, ...r.octets(r.below(8))]);
-  let index = type === 4 ? 3 : r.below(4);
+  let index = type === final ? 3 : r.below(4);
   if (r.once(40)) index = 60 + r.below(8);
   if (r.once(200)) index = r.next();
   const data = r.octets(r.once(40) ? r.below(1500) : r.below(6));
@@ -87,9 +89,9 @@ export function pieceLengths(r, count) {
 }
 
 /** The messages of a bundle cut evenly or anywhere, with long pieces among short and empty ones. */
-function cutBundle(r, number) {
+function cutBundle(r, { base: number, draft }) {
   const count = 1 + r.below(r.once(3) ? 64 : 8);
-  if (r.once(3)) return pieceLengths(r, count).map((length, k) => piece(k === count - 1, number, k, r.octets(length)));
+  if (r.once(3)) return pieceLengths(r, count).map((length, k) => pieceIn(draft, number, k, count, r.octets(length)));
   const octets = r.octets(r.below(r.once(3) ? 4300 : 600)), length = octets.length;
   const even = r.once(2);
   const inner = Array.from({ length: count - 1 }, (_, k) => {
@@ -97,7 +99,7 @@ function cutBundle(r, number) {
     return r.once(2) ? r.below(length + 1) : Math.min(length, r.below(60));
   }).sort((a, b) => a - b);
   const cuts = [0, ...inner, length];
-  return Array.from({ length: count }, (_, k) => piece(k === count - 1, number, k, octets.subarray(cuts[k], cuts[k + 1])));
+  return Array.from({ length: count }, (_, k) => pieceIn(draft, number, k, count, octets.subarray(cuts[k], cuts[k + 1])));
 }
 
 /** Messages in frames, in this order; what has no room in a frame never comes. */
@@ -118,7 +120,7 @@ function packed(r, messages) {
 export function traffic(r, run, bundles = 12) {
   const messages = [];
   for (let k = 0; k < bundles; k++) {
-    messages.push(...cutBundle(r, run.base));
+    messages.push(...cutBundle(r, run));
     if (r.once(12)) messages.push(cancel(run.base));
     if (r.once(4)) messages.push(message(2, 0, r.octets(r.below(300))));
     run.base = (run.base + 1) >>> 0;
@@ -139,7 +141,7 @@ export const GREATEST = [
   (r) => r.octets(2049 + r.below(100)),
   () => [],
   (r) => message(2, 0, r.octets(2044)),
-  (r, run) => Array.from({ length: 128 }, (_, k) => piece(k % 64 === 63, run.base + (k >> 6), k % 64, r.octets(4))).flat(),
+  (r, run) => Array.from({ length: 128 }, (_, k) => pieceIn(run.draft, run.base + (k >> 6), k % 64, 64, r.octets(4))).flat(),
   (r, run) => piece(false, run.base, r.below(64), r.octets(2036)),
 ];
 

@@ -7,11 +7,12 @@ import { Receiver, Recorder, Sender, load } from '../btpu.mjs';
 import { hexOf, messagesOf, numbers, overLink, readHex, readingHex } from '../frames.mjs';
 import { Run } from '../run.mjs';
 import { NOTHING, showing } from '../timetable.mjs';
-import { cancel, chain, message, octets, piece, sample, web } from './common.mjs';
+import { cancel, chain, message, natively, octets, piece, sample, sample00, web } from './common.mjs';
 import { withStack } from './starve.mjs';
 
 const module = await load();
-const receiver = await Receiver.create(module), recorder = await Recorder.create(module);
+const receiver = await Receiver.create(module), receiver00 = await Receiver.create({ draft: '00' }, module);
+const recorder = await Recorder.create(module);
 const GOOD = { seed: 1, lose: 0, double: 0, shuffle: 0, damage: 0 }, BAD = { seed: 133, lose: 30, double: 12, shuffle: 12, damage: 14 };
 
 /** All that a run shows at its position. */
@@ -77,13 +78,30 @@ test('a limit inside a frame: how many of its messages were treated', () => {
   const frame = Uint8Array.from([...message(2, 0, [65]), 0, 0, 0, ...message(2, 0, [66]), ...cancel(7), 0]);
   assert.deepEqual(messagesOf(frame), [0, 5, 8, 13, 21]);
   for (const [messages, bundles, length] of [[1, 1, 5], [2, 1, 8], [3, 2, 13], [4, 2, 21], [5, 2, 22]]) {
-    const run = new Run(receiver, overLink([frame, frame], GOOD), { messages });
-    assert.equal(run.goTo(2), 1);
-    assert.deepEqual(run.stopped, { arrival: 0, messages, of: 5 });
-    assert.deepEqual([run.counts.bundles, run.events[0].messages, run.events[0].length], [bundles, messages, length]);
-    run.goTo(0);
-    assert.equal(run.stopped, null);
-    assert.equal(run.messages, 0);
+    for (const taking of [receiver, receiver00]) {
+      const run = new Run(taking, overLink([frame, frame], GOOD), { messages });
+      assert.equal(run.goTo(2), 1);
+      assert.deepEqual(run.stopped, { arrival: 0, messages, of: 5 });
+      assert.deepEqual([run.counts.bundles, run.events[0].messages, run.events[0].length], [bundles, messages, length]);
+      run.goTo(0);
+      assert.equal(run.stopped, null);
+      assert.equal(run.messages, 0);
+    }
+  }
+});
+
+test('in draft 00 a run shows what the native library makes of the frames, at its end and where it goes back to', () => {
+  for (const link of [GOOD, BAD]) {
+    const arrivals = overLink(sample00, link), run = new Run(receiver00, arrivals);
+    for (const position of [arrivals.length, 40, 90, 7, arrivals.length]) {
+      run.goTo(position);
+      const came = [...arrivals.keys()].filter((k) => k < position && !arrivals[k].lost), { bundles, refused, window } = facts(run);
+      const expected = natively(came.map((k) => arrivals[k].frame), '00');
+      assert.deepEqual(bundles.reverse(), expected.bundles.map((b) => [came[b.frame], b.number === '-' ? null : +b.number, b.octets]));
+      assert.deepEqual(refused.map((x) => x.arrival).reverse(), expected.refused.map((x) => came[x.frame]));
+      assert.deepEqual(window, { greatest: expected.greatest, rows: expected.rows });
+    }
+    assert.ok(run.counts.bundles > 5 && run.counts.refused > 1);
   }
 });
 

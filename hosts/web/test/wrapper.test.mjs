@@ -8,7 +8,7 @@ import test from 'node:test';
 import { Receiver, Recorder, RefusalError, Sender, SIZES, TrapError, hasMemory64, load, readWindow, words } from '../btpu.mjs';
 import { overLink } from '../frames.mjs';
 import { NOTHING, contentOf, showing, tableOf } from '../timetable.mjs';
-import { cancel, chain, message, octets, piece, repository, sample, web } from './common.mjs';
+import { cancel, chain, message, octets, piece, repository, sample, sample00, web } from './common.mjs';
 import { damaged, GREATEST, Random, someFrames } from './random-frames.mjs';
 import { withStack } from './starve.mjs';
 
@@ -17,6 +17,10 @@ const file = (name) => fs.readFileSync(path.join(web, name));
 const refusal = (number) => (e) => e instanceof RefusalError && e.number === number;
 const frame = (...messages) => Uint8Array.from(messages.flat());
 const hex = (u) => Buffer.from(u).toString('hex');
+const DRAFTS = ['02', '00'];
+/** What a receiver answers to frames in hex, one after another. */
+const answered = (r, frames) => frames.map((f) => r.receive(octets(f)))
+  .map((a) => [a.bundles.map((b) => [b.number, hex(b.octets)]), a.refusal && [a.refusal.number, a.refusal.place]]);
 
 for (const name of ['btpu.wasm', 'btpu-plain.wasm', 'btpu64.wasm']) {
   test(name, { skip: name === 'btpu64.wasm' && !hasMemory64() && 'this node has no memory64' }, async (t) => {
@@ -25,6 +29,7 @@ for (const name of ['btpu.wasm', 'btpu-plain.wasm', 'btpu64.wasm']) {
     await bursts(t, module, name);
     await sending(t, module);
     await recording(t, module);
+    await draft00(t, module);
   });
 }
 
@@ -32,10 +37,7 @@ async function receiving(t, module, name) {
   const receiver = () => Receiver.create(module);
 
   await t.test('the marked cases of document 01, as corrected by request E2', async () => {
-    const answer = async (...frames) => {
-      const r = await receiver();
-      return frames.map((f) => r.receive(octets(f))).map((a) => [a.bundles.map((b) => [b.number, hex(b.octets)]), a.refusal && [a.refusal.number, a.refusal.place]]);
-    };
+    const answer = async (...frames) => answered(await receiver(), frames);
     assert.deepEqual(await answer('02 00 00 03 41 42 43'), [[[[null, '414243']], null]]);
     assert.deepEqual(await answer('00 00 00'), [[[], null]]);
     assert.deepEqual(await answer('01 00 00 00'), [[[], null]]);
@@ -76,23 +78,28 @@ async function receiving(t, module, name) {
     for (const other of [undefined, null, 'abc', 5, [2, 0, 0, 0], {}]) assert.throws(() => r.receive(other), TypeError);
   });
 
-  await t.test('saved in mid-transfer, restored in another receiver', async () => {
-    const s = await Sender.create({ frameSize: 128, firstNumber: 77 }, module);
-    const [first, ...rest] = [...s.send(text('x'.repeat(500))), s.flush()], a = await receiver(), b = await receiver();
-    a.receive(first);
-    const saved = a.save();
-    a.receive(rest[0]); // what goes on in a does not change what was saved
-    b.restore(saved);
-    assert.deepEqual(b.save(), saved);
-    assert.deepEqual(b.window().rows[77 % 16].pieces, [{ index: 0, length: 116 }]);
-    assert.deepEqual(rest.flatMap((f) => b.receive(f).bundles).map((x) => [x.number, x.octets.length]), [[77, 500]]);
-  });
+  for (const draft of DRAFTS) {
+    await t.test(`saved in mid-transfer, restored in another receiver, of any draft: draft ${draft}`, async () => {
+      const s = await Sender.create({ frameSize: 128, firstNumber: 77, draft }, module), [first, ...rest] = [...s.send(text('x'.repeat(500))), s.flush()];
+      for (const other of DRAFTS) {
+        const a = await Receiver.create({ draft }, module), b = await Receiver.create({ draft: other }, module);
+        a.receive(first);
+        const saved = a.save();
+        a.receive(rest[0]); // what goes on in a does not change what was saved
+        b.restore(saved);
+        assert.deepEqual(b.save(), saved);
+        assert.equal(b.draft, draft);
+        assert.deepEqual(b.window().rows[77 % 16].pieces, [{ index: draft === '00' ? 4 : 0, length: 116 }]);
+        assert.deepEqual(rest.flatMap((f) => b.receive(f).bundles).map((x) => [x.number, x.octets.length]), [[77, 500]]);
+      }
+    });
+  }
 
   await t.test('what is not sound is not restored, and changes nothing', async () => {
     const r = await receiver(), row = 8 + 196 * 5;
     r.receive(frame(piece(false, 5, 1, [1, 2, 3])));
     const before = r.save();
-    for (const [at, octet] of [[0, 2], [row + 3, 0], [row, 9], [3000, 1]]) {
+    for (const [at, octet] of [[0, 2], [1, 1], [2, 2], [2, 255], [3, 1], [row + 3, 0], [row, 9], [3000, 1]]) {
       const other = r.save();
       other.image[at] = octet;
       other.pool.fill(7);
@@ -146,7 +153,7 @@ function oneByOne(receiver, frames) {
   return { bundles: answers.flatMap((a) => a.bundles), refused };
 }
 
-/** Frames of each refusal that a frame can meet: 3, 3, 3, 4, 6, 7, 8. */
+/** Frames of each refusal that a frame can meet: 3, 3, 3, 4, 6, 7, 8; in draft 00 6 in place of 7. */
 const REFUSED = [
   ...[0, 2049, 70000].map((length) => new Uint8Array(length)),
   ...['03 00 00', '02 00 00 04 41', '02 80 00 01 02', '05 00 00 03 00 00 00'].map(octets),
@@ -154,8 +161,8 @@ const REFUSED = [
 /** A bundle of 4,096 octets in three frames. */
 const inThree = (number) => [2036, 2036, 24].map((length, k) => frame(piece(k === 2, number, k, Array(length).fill(number + k))));
 /** Frames of all kinds, in any order. */
-function anyFrames(r) {
-  const run = { base: r.once(2) ? 0xfffffff8 : r.next(), manner: r.below(4) };
+function anyFrames(r, draft) {
+  const run = { base: r.once(2) ? 0xfffffff8 : r.next(), manner: r.below(4), draft };
   const made = someFrames(r, run, 60 + r.below(80)).map((f) => (r.once(4) ? damaged(r, f) : f));
   const frames = [...[...made, ...GREATEST.map((make) => make(r, run))].map((f) => Uint8Array.from(f)), ...REFUSED, ...inThree(run.base)];
   return frames.map((f) => ({ f, key: r.next() })).sort((a, b) => a.key - b.key).map(({ f }) => f);
@@ -164,8 +171,8 @@ function anyFrames(r) {
 async function bursts(t, module, name) {
   const receiver = () => Receiver.create(module);
   /** Holds receiveAll to receive frame by frame: the answer, and the state after. */
-  const same = async (frames, message) => {
-    const a = await receiver(), b = await receiver(), expected = oneByOne(a, frames);
+  const same = async (frames, message, draft = '02') => {
+    const [a, b] = await Promise.all([0, 1].map(() => Receiver.create({ draft }, module))), expected = oneByOne(a, frames);
     assert.deepEqual(b.receiveAll(frames), expected, message);
     assert.deepEqual(b.save(), a.save(), message);
     return expected;
@@ -174,14 +181,15 @@ async function bursts(t, module, name) {
   await t.test('frames in bursts: the sample', async () => {
     assert.ok((await same(sample)).bundles.length > 0);
     await same([...sample, ...REFUSED, ...sample]);
+    assert.ok((await same([...sample00, ...REFUSED, ...sample00], 'draft 00', '00')).bundles.length > 0);
   });
 
   await t.test('frames in bursts: random ones, with refused ones of each kind', async () => {
     const seed = Number(process.env.BTPU_SEED ?? randomInt(1, 2 ** 32 - 1)), r = new Random(seed);
-    for (let n = 0; n < 12; n++) {
-      const { bundles, refused } = await same(anyFrames(r), `seed ${seed}`);
+    for (let n = 0; n < 16; n++) {
+      const draft = DRAFTS[n % 2], { bundles, refused } = await same(anyFrames(r, draft), `seed ${seed}`, draft);
       assert.ok(bundles.length >= 512);
-      assert.deepEqual([...new Set(refused.map((x) => x.number))].sort(), [3, 4, 6, 7, 8]);
+      assert.deepEqual([...new Set(refused.map((x) => x.number))].sort(), draft === '00' ? [3, 4, 6, 8] : [3, 4, 6, 7, 8]);
     }
   });
 
@@ -259,7 +267,7 @@ async function bursts(t, module, name) {
 }
 
 async function sending(t, module) {
-  const sender = (frameSize, firstNumber) => Sender.create({ frameSize, firstNumber }, module);
+  const sender = (frameSize, firstNumber, draft) => Sender.create({ frameSize, firstNumber, draft }, module);
 
   await t.test('300 octets in frames of 128 are pieces of 116, 116 and 68', async () => {
     const s = await sender(128, 9);
@@ -270,14 +278,16 @@ async function sending(t, module) {
     assert.equal(s.flush(), null);
   });
 
-  await t.test('what is sent arrives, over frames that come twice and in another order', async () => {
-    const s = await sender(256, 0xfffffffe), r = await Receiver.create(module);
-    const sent = [text('a notice'), ...[300, 4096, 900, 1].map((n) => Uint8Array.from({ length: n }, (_, k) => k * 7 + n))];
-    const frames = [...sent.flatMap((b) => s.send(b)), s.flush()];
-    const got = overLink([...frames, ...frames], { seed: 3, lose: 0, double: 20, shuffle: 5, damage: 0 }).flatMap((a) => r.receive(a.frame).bundles);
-    assert.deepEqual(got.map((b) => b.number).filter((n) => n !== null).sort((a, b) => a - b), [0, 0xfffffffe, 0xffffffff]);
-    for (const b of sent) assert.ok(got.some((g) => hex(g.octets) === hex(b)));
-  });
+  for (const draft of DRAFTS) {
+    await t.test(`what is sent arrives, over frames that come twice and in another order: draft ${draft}`, async () => {
+      const s = await sender(256, 0xfffffffe, draft), r = await Receiver.create({ draft }, module);
+      const sent = [text('a notice'), ...[300, 4096, 900, 1].map((n) => Uint8Array.from({ length: n }, (_, k) => k * 7 + n))];
+      const frames = [...sent.flatMap((b) => s.send(b)), s.flush()];
+      const got = overLink([...frames, ...frames], { seed: 3, lose: 0, double: 20, shuffle: 5, damage: 0 }).flatMap((a) => r.receive(a.frame).bundles);
+      assert.deepEqual(got.map((b) => b.number).filter((n) => n !== null).sort((a, b) => a - b), [0, 0xfffffffe, 0xffffffff]);
+      for (const b of sent) assert.ok(got.some((g) => hex(g.octets) === hex(b)));
+    });
+  }
 
   await t.test('what a sender refuses', async () => {
     for (const size of [0, 127, 2049, 65536 + 128, 2 ** 32 + 128]) await assert.rejects(sender(size, 0), refusal(14));
@@ -298,31 +308,38 @@ async function sending(t, module) {
     assert.equal(s.begun, false);
   });
 
-  await t.test('a transfer that is cancelled, and the next one', async () => {
-    const s = await sender(128, 3), r = await Receiver.create(module);
-    const [one, two] = [s.place(new Uint8Array(300)), s.place(new Uint8Array(300))];
-    s.cancel();
-    assert.equal(s.begun, false);
-    const frames = [one.frame, two.frame, ...s.send(new Uint8Array(300).fill(8)), s.flush()];
-    assert.deepEqual(frames.flatMap((f) => r.receive(f).bundles).map((b) => [b.number, b.octets[0]]), [[4, 8]]);
-    assert.equal(r.window().rows[3].phase, 'cancelled');
-  });
+  for (const draft of DRAFTS) {
+    await t.test(`a transfer that is cancelled, and the next one: draft ${draft}`, async () => {
+      const s = await sender(128, 3, draft), r = await Receiver.create({ draft }, module);
+      const [one, two] = [s.place(new Uint8Array(300)), s.place(new Uint8Array(300))];
+      s.cancel();
+      assert.equal(s.begun, false);
+      const frames = [one.frame, two.frame, ...s.send(new Uint8Array(300).fill(8)), s.flush()];
+      assert.deepEqual(frames.flatMap((f) => r.receive(f).bundles).map((b) => [b.number, b.octets[0]]), [[4, 8]]);
+      assert.equal(r.window().rows[3].phase, 'cancelled');
+    });
 
-  await t.test('saved in mid-transfer, restored in another sender', async () => {
-    const bundle = Uint8Array.from({ length: 700 }, (_, k) => k), a = await sender(200, 50), b = await sender(200, 0), r = await Receiver.create(module);
-    const before = [...a.send(text('first')), a.place(bundle).frame];
-    const saved = a.save();
-    b.restore(saved);
-    assert.deepEqual(b.save(), saved);
-    assert.throws(() => b.place(new Uint8Array(600)), refusal(12));
-    const frames = [...before.filter((f) => f !== null), ...b.send(bundle), b.flush()];
-    assert.deepEqual(frames.flatMap((f) => r.receive(f).bundles).map((x) => x.octets.length), [5, 700]);
-    assert.throws(() => b.restore({ ...saved, image: saved.image.map((x, k) => (k === 9 ? 1 : x)) }), refusal(1));
-    const other = await sender(300, 0), kept = other.save();
-    assert.throws(() => other.restore(saved), RangeError);
-    assert.throws(() => other.restore({ ...saved, frame: new Uint8Array(300) }), RangeError);
-    assert.deepEqual(other.save(), kept);
-  });
+    await t.test(`saved in mid-transfer, restored in another sender, of any draft: draft ${draft}`, async () => {
+      const bundle = Uint8Array.from({ length: 700 }, (_, k) => k), a = await sender(200, 50, draft);
+      const before = [...a.send(text('first')), a.place(bundle).frame], saved = a.save();
+      for (const started of DRAFTS) {
+        const b = await sender(200, 0, started), r = await Receiver.create({ draft }, module);
+        b.restore(saved);
+        assert.deepEqual(b.save(), saved);
+        assert.equal(b.draft, draft);
+        assert.throws(() => b.place(new Uint8Array(600)), refusal(12));
+        const frames = [...before.filter((f) => f !== null), ...b.send(bundle), b.flush()];
+        assert.deepEqual(frames.flatMap((f) => r.receive(f).bundles).map((x) => x.octets.length), [5, 700]);
+        for (const [at, octet] of [[9, 2], [9, 255], [10, 1], [11, 1]]) {
+          assert.throws(() => b.restore({ ...saved, image: saved.image.map((x, k) => (k === at ? octet : x)) }), refusal(1));
+        }
+      }
+      const other = await sender(300, 0), kept = other.save();
+      assert.throws(() => other.restore(saved), RangeError);
+      assert.throws(() => other.restore({ ...saved, frame: new Uint8Array(300) }), RangeError);
+      assert.deepEqual(other.save(), kept);
+    });
+  }
 }
 
 async function recording(t, module) {
@@ -363,6 +380,71 @@ async function recording(t, module) {
     for (const length of [0, 2049]) assert.throws(() => r.record([one(length)]), refusal(18));
     assert.throws(() => r.record([one(70000)]), refusal(17));
     for (const wrong of [['frame'], [[1, 2]], 5]) assert.throws(() => r.record(wrong), TypeError);
+  });
+}
+
+async function draft00(t, module) {
+  await t.test('the marked cases of document 01, and the layouts of draft 00', async () => {
+    const answer = async (...frames) => answered(await Receiver.create({ draft: '00' }, module), frames);
+    const last = '04 00 00 09 00 00 00 05 00 00 00 00 43', middle = '04 00 00 09 00 00 00 05 00 00 00 01 42', start = '03 00 00 09 00 00 00 05 00 00 00 02 41';
+    assert.deepEqual(await answer('02 00 00 03 41 42 43'), [[[[null, '414243']], null]]);
+    for (const nothing of ['00 00 00', '01 00 00 00', last, middle, start]) assert.deepEqual(await answer(nothing), [[[], null]]);
+    assert.deepEqual(await answer(last, start, middle), [[[], null], [[], null], [[[5, '414243']], null]]);
+    const alone = '03 00 00 09 00 00 00 05 00 00 00 00 41'; // a start with index 0
+    assert.deepEqual(await answer(alone), [[[[5, '41']], null]]);
+    assert.deepEqual(await answer('05 00 00 04 00 00 00 05', alone), [[[], null], [[], null]]);
+    assert.deepEqual(await answer('00 02 00 00 00'), [[[[null, '']], null]]);
+    for (const type of ['06', 'ff']) assert.deepEqual(await answer(`${type} 00 00 01 41 02 00 00 01 42`), [[[[null, '42']], null]]);
+    const short = ['05 00 00 03 00 00 00', '03 00 00 07 00 00 00 05 00 00 00', '04 00 00 07 00 00 00 05 00 00 00'];
+    const beyond = ['02 00 00 04 41', '02 10 00 00', '02 80 00 05 02 01 FF 41 42', '02 80 00 01 02'];
+    for (const [bad, number] of [...beyond.map((f) => [f, 6]), ['03 00 00', 4], ...short.map((f) => [f, 8])]) {
+      assert.deepEqual(await answer(bad), [[[], [number, 0]]]);
+      assert.deepEqual(await answer(`00 ${bad}`), [[[], [number, 1]]]);
+    }
+  });
+
+  await t.test('the start carries the highest index, by the room in its frame, and the last piece is a segment with index 0', async () => {
+    const s = await Sender.create({ frameSize: 128, firstNumber: 9, draft: '00' }, module), head = (f) => hex(f.subarray(0, 12));
+    const frames = [...s.send(new Uint8Array(300).fill(7)), s.flush()];
+    assert.deepEqual(frames.map(head), ['0300007c0000000900000002', '0400007c0000000900000001', '0400004c0000000900000000']);
+    assert.equal(hex(frames[2].subarray(12)), `${'07'.repeat(68)}0100002c${'00'.repeat(44)}`);
+    assert.deepEqual(s.send(new Uint8Array(44)), []);
+    const [first, ...rest] = s.send(new Uint8Array(300).fill(8)); // a room of 80: 68 octets, then 116 twice
+    assert.deepEqual([hex(first.subarray(48, 60)), ...rest.map(head)], ['0300004c0000000a00000002', '0400007c0000000a00000001', '0400007c0000000a00000000']);
+    assert.deepEqual([s.fill, s.nextNumber, s.begun, s.draft], [0, 11, false, '00']);
+  });
+
+  await t.test('the window: what is known of the highest index, and restart in the same draft', async () => {
+    const r = await Receiver.create({ draft: '00' }, module), row = () => r.window().rows[5];
+    r.receive(octets('04 00 00 09 00 00 00 05 00 00 00 01 41'));
+    assert.deepEqual([row().last, row().pieces], [null, [{ index: 1, length: 1 }]]);
+    r.receive(octets('03 00 00 0a 00 00 00 05 00 00 00 03 41 42'));
+    assert.deepEqual([row().last, row().pieces], [3, [{ index: 1, length: 1 }, { index: 3, length: 2 }]]);
+    r.restart();
+    assert.deepEqual([row().phase, r.draft], ['free', '00']);
+    assert.equal(r.receive(octets('02 10 00 00')).refusal.number, 6);
+  });
+
+  await t.test('the draft is 02 unless it is asked for, and no other than 00 or 02', async () => {
+    const sender = (start) => Sender.create({ frameSize: 128, firstNumber: 0, ...start }, module), instance = () => WebAssembly.instantiate(module);
+    const made = [Receiver.create(module), Receiver.create(undefined, module), Receiver.create({}, module), Receiver.create({ draft: undefined }, module),
+      Receiver.create({ draft: '02' }, module), sender({}), sender({ draft: '02' }), instance().then((one) => new Receiver(one))];
+    assert.deepEqual((await Promise.all(made)).map((one) => one.draft), made.map(() => '02'));
+    const older = [Receiver.create({ draft: '00' }, module), sender({ draft: '00' }), instance().then((one) => new Receiver(one, { draft: '00' }))];
+    assert.deepEqual((await Promise.all(older)).map((one) => one.draft), older.map(() => '00'));
+    for (const draft of ['01', '0', '2', '', 'draft 00', 0, 2, null, ['00']]) {
+      await assert.rejects(Receiver.create({ draft }, module), RangeError);
+      await assert.rejects(sender({ draft }), RangeError);
+    }
+    await assert.rejects(Receiver.create(module, { draft: '00' }), TypeError);
+    await assert.rejects(Receiver.create('00', module), TypeError);
+  });
+
+  await t.test('a recording of frames of draft 00 is played as draft 02', async () => {
+    const r = await Recorder.create(module), receiver = await Receiver.create(module), answers = sample00.map((f) => receiver.receive(f));
+    const { bundles, refused } = r.play(r.record(sample00));
+    assert.deepEqual(bundles, answers.flatMap((a) => a.bundles).map((b) => b.octets));
+    assert.deepEqual(refused.map((x) => x.number), answers.flatMap((a) => (a.refusal ? [a.refusal.number] : [])));
   });
 }
 

@@ -12,12 +12,17 @@ returns : tie.Need-returns
 unfolding refusal admission
 returns c = rw (← c .before .before .is-sound .ensures, c .before .if1 .taken, c .if2 .taken)
 
+version-of-requires : tie.Need-version-of-requires
+version-of-requires c κs = search needs
+
 admit-frames-requires : tie.Need-admit-frames-requires
 admit-frames-requires c κs = search needs
 
 returns-2 : tie.Need-returns-2
 unfolding refusal
-returns-2 c = rw (← c .before .before .before .is-sound .ensures, c .before .before .if1 .taken, c .before .if2 .left) (c .admit-frames .ensures)
+returns-2 c =
+    let two = c .before .before in
+    rw (← two .before .before .is-sound .ensures, two .before .if1 .taken, two .if2 .left, ← c .before .version-of .ensures) (c .admit-frames .ensures)
 
 returns-3 : tie.Need-returns-3
 unfolding refusal admission
@@ -25,4 +30,4 @@ returns-3 c = rw (← c .before .is-sound .ensures, c .if1 .left)
 
 pub admit-spec : {M : Type 1} → statement M
 admit-spec =
-    tie.close (tie.spec is-sound-requires returns admit-frames-requires returns-2 returns-3)
+    tie.close (tie.spec is-sound-requires returns version-of-requires admit-frames-requires returns-2 returns-3)

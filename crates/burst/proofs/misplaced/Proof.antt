@@ -5,7 +5,7 @@ use Prim.Native.Nat.{ℕ, _+_, _≤_, _<_}
 use native.Mathlib.Omega.{arith}
 use lib.ListN.{length, getD, take}
 use lib.Dec.{eqb}
-use Rattle.rows.specs.Message.{draft02}
+use Rattle.rows.specs.Message.{draft}
 use Rattle.receiver.specs.Receive.{numberOf, unfit}
 use borrow.Author.Needs.{needs}
 use Rattle.octets.specs.Octets.{sumOf}
@@ -62,7 +62,7 @@ returns-2 c =
     let m = c .before .before .before in
     let a = start m .args in
     let same = part (m .sum-of .result) (sumOf (take (a .frame) (a .sizes .now))) (getD (a .sizes .now) (a .frame) 0) (a .joined .now) (m .sum-of .ensures) in
-    rw (frame-at (a .frame) (a .sizes .now) (a .joined .now) (below m)) (ap (λ (x : ℕ). eqb x 9) (c .reason-of .ensures ∙ ap (λ (f : List ℕ). numberOf (unfit draft02 f (a .place))) same))
+    rw (frame-at (a .frame) (a .sizes .now) (a .joined .now) (below m)) (ap (λ (x : ℕ). eqb x 9) (c .reason-of .ensures ∙ ap (λ (f : List ℕ). numberOf (unfit (draft (a .version)) f (a .place))) same))
 
 pub misplaced-spec : {M : Type 1} → statement M
 misplaced-spec =

@@ -1,24 +1,27 @@
 -- `frames::run_frames` meets its contract. The invariant `Passing`: all frames from the beginning are those left from here.
-use mathlib.Core.Path.{_≡_, refl, sym, _∙_}
+use mathlib.Core.Path.{_≡_, refl, sym, ap, _∙_}
 use mathlib.Core.Bool.{true}
 use mathlib.Core.List.{List}
 use Prim.Native.Nat.{ℕ, _+_, _-_, _≤_, _<_, _^_}
 use native.Mathlib.Omega.{arith}
-use lib.ListN.{length, getD}
+use lib.ListN.{length, getD, take, drop}
 use borrow.Author.Needs.{needs}
+use Rattle.wire.specs.declared.Version.{Version}
+use Rattle.rows.specs.Message.{draft}
 use Rattle.messages.specs.Run.{going}
+use Rattle.receiver.specs.Receive.{numberOf, unfit}
 use Rattle.frames.specs.Frames.{Reach, setOut}
-use Rattle.frames.proofs.Passing.{Passing, goesOn, begins, ends, k<, inside, refuses, fits, stopped, passes}
+use Rattle.frames.proofs.Passing.{Passing, draftAt, goesOn, begins, ends, k<, inside, refuses, fits, stopped, passes}
 use Rattle.frames.proofs.run_frames.Statement.{statement}
 use Rattle.frames.proofs.run_frames.Tie as tie
 
 abbrev Inv-loop : tie.InvT-loop
-Inv-loop pool₀ sizes octets first output₀ lengths₀ numbers₀ places₀ reasons₀ limits now₀ progress₀ refused₀ k₀ frame₀ at₀ pool output lengths numbers places reasons now progress refused k frame at =
+Inv-loop pool₀ sizes octets first output₀ lengths₀ numbers₀ places₀ reasons₀ limits version now₀ progress₀ refused₀ k₀ frame₀ at₀ pool output lengths numbers places reasons now progress refused k frame at =
     Passing limits sizes octets (setOut (going now₀ pool₀ output₀ lengths₀ numbers₀ progress₀) places₀ reasons₀ first) k at
     (record { run = going now pool output lengths numbers progress; places = places; reasons = reasons; refused = refused; frame = frame })
 
 abbrev μ-loop : tie.MeasureT-loop
-μ-loop pool₀ sizes octets first output₀ lengths₀ numbers₀ places₀ reasons₀ limits now₀ progress₀ refused₀ k₀ frame₀ at₀ pool output lengths numbers places reasons now progress refused k frame at = length sizes - k
+μ-loop pool₀ sizes octets first output₀ lengths₀ numbers₀ places₀ reasons₀ limits version now₀ progress₀ refused₀ k₀ frame₀ at₀ pool output lengths numbers places reasons now progress refused k frame at = length sizes - k
 
 -- ---- the beginning, and where a turn stands
 
@@ -31,7 +34,7 @@ module _ (c : tie.Start Inv-loop μ-loop) where
 
 module _ (c : tie.At-loop Inv-loop μ-loop) where
   abbrev start : tie.Start Inv-loop μ-loop
-  start = c .before .before .before .before .before .before .before .before .before
+  start = c .before .before .before .before .before .before .before .before .before .before
 
   abbrev now : Reach
   now = let l = c .loop in record { run = going (l .now) (l .pool) (l .output) (l .lengths) (l .numbers) (l .progress); places = l .places; reasons = l .reasons; refused = l .refused; frame = l .frame }
@@ -62,13 +65,23 @@ module _ (c : tie.After-reason-of Inv-loop μ-loop) where
   abbrev known : tie.After-shared-slice-known3 Inv-loop μ-loop
   known = c .before .before
 
+  abbrev pdu : List ℕ
+  pdu = let l = here known .loop in take (l .at + getD (sizes known) (l .k) 0 - l .at) (drop (l .at) (start (here known) .args .octets .now))
+
+  -- the frame's refusal is that of the receiver's draft
+  reason : c .reason-of .result ≡ numberOf (unfit (draftAt (first (start (here known)))) pdu (here known .loop .progress .next))
+  reason = c .reason-of .ensures ∙ ap (λ (u : Version). numberOf (unfit (draft u) pdu (here known .loop .progress .next))) (here known .before .version-of .ensures)
+
   further : here known .loop .frame + 1 ≤ 65536
   further = omega (arith, here known .loop .inv .frame, below known, start (here known) .pre .2)
 
 -- ---- the needs
 
+version-of-requires : tie.Need-version-of-requires Inv-loop μ-loop
+version-of-requires c κs = search needs
+
 loop-holds : tie.Need-loop-holds Inv-loop μ-loop
-loop-holds c = let s = c .before .before .before .before .before .before .before .before in begins (s .args .limits) (s .args .sizes .now) (s .args .octets .now) (first s) (s .pre .0) (s .pre .1) refl
+loop-holds c = let s = c .before .before .before .before .before .before .before .before .before in begins (s .args .limits) (s .args .sizes .now) (s .args .octets .now) (first s) (s .pre .0) (s .pre .1) refl
 
 more-requires : tie.Need-more-requires Inv-loop μ-loop
 more-requires c κs = c .loop .inv .able .used
@@ -99,15 +112,12 @@ reason-of-requires c κs = search needs
 
 -- ---- a frame is refused
 
-put-entry-requires : tie.Need-put-entry-requires Inv-loop μ-loop
-put-entry-requires c κs = search needs
-
-put-entry-requires-2 : tie.Need-put-entry-requires-2 Inv-loop μ-loop
-put-entry-requires-2 c κs = search needs
+note-requires : tie.Need-note-requires Inv-loop μ-loop
+note-requires c κs = search needs
 
 module _ (c : tie.After-slice-known8 Inv-loop μ-loop) where
   abbrev refused : tie.After-reason-of Inv-loop μ-loop
-  refused = c .before .before .before .before .before .before .before .before .before
+  refused = c .before .before .before .before .before .before .before .before
 
 add-refused : tie.Need-add-refused Inv-loop μ-loop
 add-refused c = let k = known (refused c) in record { fits = omega (arith, here k .loop .inv .few, few k) }
@@ -124,15 +134,15 @@ loop-less c = omega (arith, below (known (refused c)))
 loop-again : tie.Need-loop-again Inv-loop μ-loop
 loop-again c =
     let r = refused c in
-    rw (c .before .before .put-entry2 .ensures, c .before .before .before .before .before .before .put-entry .ensures)
-    (refuses (here (known r) .loop .inv) (test (known r)) _ (r .reason-of .ensures) (c .before .before .before .before .before .before .before .before .if2 .taken))
+    let n = c .before .before .before .before .note .ensures in
+    rw (n .0, n .1) (refuses (here (known r) .loop .inv) (test (known r)) _ (reason r) (c .before .before .before .before .before .before .before .if2 .taken))
 
 -- ---- a frame is taken
 
 run-requires : tie.Need-run-requires Inv-loop μ-loop
 run-requires c κs =
     let r = c .before .before .before .before .before in
-    let f = fits (here (known r) .loop .inv) (test (known r)) _ (r .reason-of .ensures) (c .before .before .before .before .if2 .left) in
+    let f = fits (here (known r) .loop .inv) (test (known r)) _ (reason r) (c .before .before .before .before .if2 .left) in
     (here (known r) .loop .inv .able, f .small, f .accepted)
 
 module _ (c : tie.After-run Inv-loop μ-loop) where
@@ -157,7 +167,7 @@ loop-again-2 c =
     let t = left (c .before) in
     let r = admitted t in
     let s = t .run .kept in
-    passes (here (known r) .loop .inv) (test (known r)) _ (r .reason-of .ensures) (t .before .before .before .before .before .if2 .left) _ (t .run .ensures .0) (c .if3 .left) (t .run .ensures .1)
+    passes (here (known r) .loop .inv) (test (known r)) _ (reason r) (t .before .before .before .before .before .if2 .left) _ (t .run .ensures .0) (c .if3 .left) (t .run .ensures .1)
     (record { pool = s .1 .0; output = s .1 .1 .1 .1 .0; lengths = s .1 .1 .1 .1 .1 .0; numbers = s .1 .1 .1 .1 .1 .1 .0 })
 
 -- ---- a frame is left before its end
@@ -184,7 +194,7 @@ returns-2 : tie.Need-returns-2 Inv-loop μ-loop
 returns-2 c =
     let t = left (c .before) in
     let r = admitted t in
-    stopped (here (known r) .loop .inv) (test (known r)) _ (r .reason-of .ensures) (t .before .before .before .before .before .if2 .left) _ (t .run .ensures .0) (c .if3 .taken)
+    stopped (here (known r) .loop .inv) (test (known r)) _ (reason r) (t .before .before .before .before .before .if2 .left) _ (t .run .ensures .0) (c .if3 .taken)
 
 -- ---- the loop ends
 
@@ -215,6 +225,7 @@ run-frames-spec =
     (tie.spec
     Inv-loop
     μ-loop
+    version-of-requires
     loop-holds
     more-requires
     mul-n
@@ -225,8 +236,7 @@ run-frames-spec =
     part-pdu-start
     part-pdu-end
     reason-of-requires
-    put-entry-requires
-    put-entry-requires-2
+    note-requires
     add-refused
     add-k
     add-frame

@@ -26,7 +26,7 @@ returns : tie.Need-returns
 unfolding contentLength
 returns c =
     let a = c .before .before .before .before .before .before .before .args in
-    is-added _ (ended (a .s)) _ 8 (Message.cancel (a .s .number)) (a .frame .now) _ (c .before .ended .ensures) (c .advanced .ensures) (sym (length-written (Message.cancel (a .s .number)))) (c .before .before .before .before .put-cancel .ensures)
+    is-added _ (ended (a .s)) _ 8 (Message.cancel (a .s .number)) (a .frame .now) _ (c .before .ended .ensures) (c .advanced .ensures) (sym (length-written (a .s .version) (Message.cancel (a .s .number)))) (c .before .before .before .before .put-cancel .ensures (a .s .version))
 
 pub cancelling-spec : {M : Type 1} → statement M
 cancelling-spec =

@@ -31,7 +31,7 @@ unfolding placing contentLength
 returns c =
     let a = c .before .before .before .before .before .before .before .before .before .before .before .args in
     rw (le-leb _ _ (c .before .before .before .before .before .before .if1 .taken), le-leb _ _ (c .before .before .before .before .before .if2 .taken))
-    (is-added _ (a .s) _ _ (bundle (a .bundle .now)) (a .frame .now) _ refl (c .advanced .ensures) (omega (arith, length-written (bundle (a .bundle .now)))) (c .before .before .before .put-bundle .ensures))
+    (is-added _ (a .s) _ _ (bundle (a .bundle .now)) (a .frame .now) _ refl (c .advanced .ensures) (omega (arith, length-written (a .s .version) (bundle (a .bundle .now)))) (c .before .before .before .put-bundle .ensures (a .s .version)))
 
 close-requires : tie.Need-close-requires
 close-requires c κs = search needs

@@ -9,6 +9,7 @@ use lib.ListN.{getD, set, length}
 use borrow.Author.Needs.{needs}
 use Rattle.wire.specs.Layout.{read}
 use Rattle.window.specs.Window.{windowSize, sixteen}
+use Rattle.pieces.specs.declared.Order.{Order}
 use Rattle.pieces.specs.Pieces.{bundleMax}
 use Rattle.row.specs.Row.{emptyRow}
 use Rattle.row.specs.declared.Phase.the-variants.{Free}
@@ -16,24 +17,25 @@ use Rattle.row.specs.declared.Row.{Row}
 use Rattle.row.proofs.Shaped.{Shaped}
 use Rattle.reassembly.specs.declared.Delivery.{Delivery}
 use Rattle.reassembly.specs.declared.Delivery.the-variants.{Nothing}
+use Rattle.rows.specs.Message.{orderOf}
 use Rattle.rows.specs.declared.Origin.{Origin}
 use Rattle.rows.specs.declared.Origin.the-variants.{Whole}
 use Rattle.rows.specs.declared.Visit.{Visit}
 use Rattle.rows.proofs.Rows.{length-mapped, getD-any}
 use Rattle.messages.specs.Run.{progressed, size, Run, going}
 use Rattle.messages.specs.declared.Progress.{Progress}
-use Rattle.messages.proofs.Looping.{progressed-next, begins, ends, some-left, never-bad, passed, turned, v, at<, treated<, count<, room, place, slot<, fits, admit, found-sound, handed-fits, Going, Turn}
+use Rattle.messages.proofs.Looping.{goesOn, progressed-next, begins, ends, some-left, never-bad, passed, turned, v, at<, treated<, count<, room, place, slot<, fits, admit, found-sound, handed-fits, Going, Turn}
 use Rattle.messages.proofs.Visits.{visited, rowsFor, rows-for-full, cleared, cleared-some, cleared-none, opened, opened-some, opened-none}
 use Rattle.messages.proofs.run.Statement.{statement}
 use Rattle.messages.proofs.run.Tie as tie
 
 abbrev Inv-loop : tie.InvT-loop
-Inv-loop pool₀ frame output₀ lengths₀ numbers₀ limits present₀ greatest₀ rows₀ progress₀ pool output lengths numbers present greatest rows progress =
-    Going limits frame (going (record { present = present₀; greatest = greatest₀; rows = rows₀ }) pool₀ output₀ lengths₀ numbers₀ progress₀)
-    (going (record { present = present; greatest = greatest; rows = rows }) pool output lengths numbers progress)
+Inv-loop pool₀ frame output₀ lengths₀ numbers₀ limits settings version present₀ greatest₀ rows₀ progress₀ pool output lengths numbers present greatest rows progress =
+    Going limits frame (going (record { present = present₀; greatest = greatest₀; rows = rows₀; settings = settings }) pool₀ output₀ lengths₀ numbers₀ progress₀)
+    (going (record { present = present; greatest = greatest; rows = rows; settings = settings }) pool output lengths numbers progress)
 
 abbrev μ-loop : tie.MeasureT-loop
-μ-loop pool₀ frame output₀ lengths₀ numbers₀ limits present₀ greatest₀ rows₀ progress₀ pool output lengths numbers present greatest rows progress = length frame - progress .next
+μ-loop pool₀ frame output₀ lengths₀ numbers₀ limits settings version present₀ greatest₀ rows₀ progress₀ pool output lengths numbers present greatest rows progress = length frame - progress .next
 
 -- ---- the beginning
 
@@ -54,10 +56,13 @@ module _ (c : tie.Start Inv-loop μ-loop) where
 
 module _ (c : tie.At-loop Inv-loop μ-loop) where
   abbrev start : tie.Start Inv-loop μ-loop
-  start = c .before .before .before .before .before .before .before
+  start = c .before .before .before .before .before .before .before .before
+
+  abbrev order : Order
+  order = orderOf (start .args .state .settings .version)
 
   abbrev now : Run
-  now = let l = c .loop in going (record { present = l .present; greatest = l .greatest; rows = l .rows }) (l .pool) (l .output) (l .lengths) (l .numbers) (l .progress)
+  now = let l = c .loop in going (record { present = l .present; greatest = l .greatest; rows = l .rows; settings = start .args .state .settings }) (l .pool) (l .output) (l .lengths) (l .numbers) (l .progress)
 
   abbrev frame : List ℕ
   frame = start .args .frame .now
@@ -110,7 +115,7 @@ module _ (c : tie.Joined3 Inv-loop μ-loop) where
   abbrev goal : Visit
   goal = seen .visit-of .result
 
-  joined3 : c .if3 .rows ≡ rowsFor windowSize false (now (here (known seen)) .board) goal
+  joined3 : c .if3 .rows ≡ rowsFor windowSize (order (here (known seen))) (now (here (known seen)) .board) goal
   joined3 =
       let rows = c .before .before .if2 .rows in
       ⊎-elim (λ w. w .2 ∙ ap (set rows (goal .slot)) (w .1 .ensures) ∙ opened-some (goal .slot) (goal .entered) rows (w .0 .taken)) (λ w. w .1 ∙ opened-none (goal .slot) (goal .entered) rows (w .0 .left)) (c .if3 .came)
@@ -120,10 +125,10 @@ module _ (c : tie.Joined3 Inv-loop μ-loop) where
   row = getD (c .if3 .rows) (goal .slot) (record { phase = Free; known = false; last = 0; held = 0; indexes = []; lengths = [] })
 
   row-found : row ≡ getD (c .if3 .rows) (goal .slot) (emptyRow Free)
-  row-found = getD-any (c .if3 .rows) (goal .slot) _ (emptyRow Free) (omega (arith, slot-below seen, ap length joined3, rows-for-full windowSize sixteen false (now (here (known seen)) .board) (here (known seen) .loop .inv .ready) goal))
+  row-found = getD-any (c .if3 .rows) (goal .slot) _ (emptyRow Free) (omega (arith, slot-below seen, ap length joined3, rows-for-full windowSize sixteen (order (here (known seen))) (now (here (known seen)) .board) (here (known seen) .loop .inv .ready) goal))
 
-  row-is : row ≡ visited windowSize false (now (here (known seen)) .board) (v (turn (known seen)))
-  row-is = row-found ∙ ap (λ (rows : List Row). getD rows (goal .slot) (emptyRow Free)) joined3 ∙ ap (visited windowSize false (now (here (known seen)) .board)) (seen .visit-of .ensures)
+  row-is : row ≡ visited windowSize (order (here (known seen))) (now (here (known seen)) .board) (v (turn (known seen)))
+  row-is = row-found ∙ ap (λ (rows : List Row). getD rows (goal .slot) (emptyRow Free)) joined3 ∙ ap (visited windowSize (order (here (known seen))) (now (here (known seen)) .board)) (seen .visit-of .ensures)
 
   low-after : goal .greatest < 2 ^ 32
   low-after = search needs
@@ -144,7 +149,7 @@ module _ (c : tie.After-cell-turn Inv-loop μ-loop) where
 -- ---- the needs
 
 loop-holds : tie.Need-loop-holds Inv-loop μ-loop
-loop-holds c = let s = c .before .before .before .before .before .before in begins (s .args .limits) (s .args .frame .now) (first s) (s .pre .0) (s .pre .2) (full s) (low s)
+loop-holds c = let s = c .before .before .before .before .before .before .before in begins (s .args .limits) (s .args .frame .now) (first s) (s .pre .0) (s .pre .2) (full s) (low s)
 
 more-requires : tie.Need-more-requires Inv-loop μ-loop
 more-requires c κs = let g = c .loop .inv in omega (arith, g .output, g .used)
@@ -234,41 +239,30 @@ loop-again-2 c =
     turned (turn h) (small h) (goal f) (seen f .visit-of .ensures) (f .if3 .rows) (joined3 f) (row f) (row-found f) (shaped t) (low-after f)
     (t .cell-turn .result) _ _ (t .cell-turn .ensures .0) _ (l .list-bundle .ensures .0) _ (l .list-bundle .ensures .1) (c .progressed2 .result) (c .progressed2 .ensures)
 
+ended-requires : tie.Need-ended-requires Inv-loop μ-loop
+ended-requires c κs = search needs
+
 same-length : tie.Need-same-length Inv-loop μ-loop
-same-length c = let l = c .before .before in l .loop .inv .ready .pool ∙ sym (start l .pre .0 .pooled)
+same-length c = let l = c .before .before .before in l .loop .inv .ready .pool ∙ sym (start l .pre .0 .pooled)
 
 same-length-2 : tie.Need-same-length-2 Inv-loop μ-loop
-same-length-2 c = c .before .before .loop .inv .output
+same-length-2 c = c .before .before .before .loop .inv .output
 
 same-length-3 : tie.Need-same-length-3 Inv-loop μ-loop
-same-length-3 c = c .before .before .loop .inv .lengths
+same-length-3 c = c .before .before .before .loop .inv .lengths
 
 same-length-4 : tie.Need-same-length-4 Inv-loop μ-loop
-same-length-4 c = c .before .before .loop .inv .numbers
+same-length-4 c = c .before .before .before .loop .inv .numbers
 
+-- the loop is left where its test fails; no message is bad
 returns : tie.Need-returns Inv-loop μ-loop
-returns c = let g = c .before .before .loop .inv in (ends g (sym (c .before .more .ensures) ∙ c .if1 .left), record { sound = g .ready .sound; pooled = g .ready .pool; used = omega (arith, g .used, g .output) })
-
--- a bad message, which there is not
-module _ (c : tie.After-enum-told Inv-loop μ-loop) where
-  abbrev stood : tie.At-loop Inv-loop μ-loop
-  stood = c .before .before .before .before .before
-
-same-length-5 : tie.Need-same-length-5 Inv-loop μ-loop
-same-length-5 c = stood c .loop .inv .ready .pool ∙ sym (start (stood c) .pre .0 .pooled)
-
-same-length-6 : tie.Need-same-length-6 Inv-loop μ-loop
-same-length-6 c = stood c .loop .inv .output
-
-same-length-7 : tie.Need-same-length-7 Inv-loop μ-loop
-same-length-7 c = stood c .loop .inv .lengths
-
-same-length-8 : tie.Need-same-length-8 Inv-loop μ-loop
-same-length-8 c = stood c .loop .inv .numbers
-
-returns-2 : tie.Need-returns-2 Inv-loop μ-loop
-returns-2 c =
-    never-bad (stood c .loop .inv) (sym (c .before .before .before .before .more .ensures) ∙ c .before .before .before .if1 .taken) _ (sym (c .before .before .read-message .ensures) ∙ c .enum-told .given .1)
+returns c =
+    let l = c .before .before .before in
+    let g = l .loop .inv in
+    let test = sym (c .before .before .more .ensures) in
+    let over : goesOn (start l .args .limits) (frame l) (now l) ≡ false =
+    ⊎-elim (λ w. test ∙ w .left) (λ w. never-bad g (test ∙ w .0 .taken) _ (sym (w .1 .ensures) ∙ w .3 .given .1)) (c .before .if1 .came) in
+    rw (c .ended .ensures) (ends g over, record { sound = g .ready .sound; pooled = g .ready .pool; used = omega (arith, g .used, g .output) })
 
 pub run-spec : {M : Type 1} → statement M
 run-spec =
@@ -302,13 +296,9 @@ run-spec =
     progressed-requires-2
     loop-less-2
     loop-again-2
+    ended-requires
     same-length
     same-length-2
     same-length-3
     same-length-4
-    returns
-    same-length-5
-    same-length-6
-    same-length-7
-    same-length-8
-    returns-2)
+    returns)

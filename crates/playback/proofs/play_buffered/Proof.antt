@@ -15,9 +15,6 @@ play-frames-requires c κs =
     let E = p .0 in
     (record { few = E .few; sum = E .sum; small = E .small; pooled = E .pooled; lengths = E .lengths; places = E .places; reasons = E .reasons }, p .1)
 
-slice-reshare-prefix-copy-long : tie.Need-slice-reshare-prefix-copy-long
-slice-reshare-prefix-copy-long c = search needs
-
 -- what is played, and the memory lent for it
 module _ (c : tie.After-play-frames) where
   abbrev start : tie.Start
@@ -28,6 +25,11 @@ module _ (c : tie.After-play-frames) where
 
   abbrev lent : Results
   lent = let a = start .args in results (a .output .now) (a .lengths .now) (a .places .now) (a .reasons .now)
+
+slice-reshare-prefix-copy-long : tie.Need-slice-reshare-prefix-copy-long
+slice-reshare-prefix-copy-long c =
+    let t = c .before .before .before .before .before .before .before .before .before .before .before .before in
+    omega (arith, t .play-frames .ensures .1, t .play-frames .kept .1 .1 .1 .1 .0, start t .pre .1)
 
 slice-aggregate-copy-long : tie.Need-slice-aggregate-copy-long
 slice-aggregate-copy-long c =

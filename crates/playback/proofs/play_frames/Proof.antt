@@ -2,7 +2,9 @@
 use mathlib.Core.Path.{ap, _∙_}
 use mathlib.Core.List.{[], _∷_}
 use native.Mathlib.Omega.{arith}
+use Rattle.wire.specs.declared.Version.the-variants.{Draft02}
 use Rattle.window.specs.Window.{windowSize, sixteen}
+use Rattle.rows.specs.State.{fresh}
 use Rattle.receiver.proofs.Ready.{fresh-ready}
 use Rattle.frames.specs.Frames.{Reach}
 use Rattle.playback.specs.Call.{results}
@@ -28,7 +30,7 @@ run-frames-requires c κs =
     let s = start-of (c .before .before .before .before .before .before .before) in
     let E = s .pre .0 in
     rw (c .before .before .before .before .before .before .before .start .ensures, c .before .before .before .before .before .begun .ensures)
-    (record { sound = fresh-ready windowSize sixteen (s .args .pool .now) (E .pooled) .sound; pooled = E .pooled; used = omega arith }, E .sum, omega (arith, E .few))
+    (record { sound = fresh-ready windowSize sixteen Draft02 (s .args .pool .now) (E .pooled) .sound; pooled = E .pooled; used = omega arith }, E .sum, omega (arith, E .few))
 
 same-length : tie.Need-same-length
 same-length c = search needs
@@ -46,6 +48,7 @@ same-length-5 : tie.Need-same-length-5
 same-length-5 c = search needs
 
 returns : tie.Need-returns
+unfolding fresh
 returns c =
     let s = start-of (c .before .before .before .before .before .before .before .before .before .before .before .before .before .before .before .before .before .before .before) in
     let a = s .args in

@@ -72,8 +72,8 @@ returns c =
     rw (← l .last-after .ensures, ← l .before .before .before .before .copy-into .ensures, ← i .before .is-complete .ensures, i .if1 .taken)
     (record { row = c .empty-row .ensures; delivery = rw (j .size); cell = refl; output = j .output })
 
-add-t18 : tie.Need-add-t18
-add-t18 c = omega arith
+add-t19 : tie.Need-add-t19
+add-t19 c = omega arith
 
 same-length-3 : tie.Need-same-length-3
 same-length-3 c = omega arith
@@ -103,6 +103,6 @@ accept-spec =
     same-length
     same-length-2
     returns
-    add-t18
+    add-t19
     same-length-3
     returns-2)

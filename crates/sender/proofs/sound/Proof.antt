@@ -13,15 +13,15 @@ ranges-requires c κs = search needs
 under-way-requires : tie.Need-under-way-requires
 under-way-requires c κs = let f = ranges-facts (c .before .before .before .args .s) (sym (c .before .before .ranges .ensures) ∙ c .before .if1 .taken) in omega arith
 
-few-pieces-requires : tie.Need-few-pieces-requires
-few-pieces-requires c κs =
+indexed-requires : tie.Need-indexed-requires
+indexed-requires c κs =
     let s = c .before .before .before .before .before .args .s in
     let f = ranges-facts s (sym (c .before .before .before .before .ranges .ensures) ∙ c .before .before .before .if1 .taken) in
     let g = under-way-facts s (sym (c .before .under-way .ensures) ∙ c .if3 .taken) in
     omega arith
 
 returns : tie.Need-returns
-returns c = c .few-pieces .ensures ∙ sound-by _ true true true (sym (c .before .before .before .before .if1 .taken) ∙ c .before .before .before .before .before .ranges .ensures) (sym (c .before .before .before .if2 .taken)) (sym (c .before .if3 .taken) ∙ c .before .before .under-way .ensures)
+returns c = c .indexed .ensures ∙ sound-by _ true true true (sym (c .before .before .before .before .if1 .taken) ∙ c .before .before .before .before .before .ranges .ensures) (sym (c .before .before .before .if2 .taken)) (sym (c .before .if3 .taken) ∙ c .before .before .under-way .ensures)
 
 returns-2 : tie.Need-returns-2
 returns-2 c = sound-by _ true true false (sym (c .before .before .before .if1 .taken) ∙ c .before .before .before .before .ranges .ensures) (sym (c .before .before .if2 .taken)) (sym (c .if3 .left) ∙ c .before .under-way .ensures)
@@ -41,7 +41,7 @@ sound-spec =
     (tie.spec
     ranges-requires
     under-way-requires
-    few-pieces-requires
+    indexed-requires
     returns
     returns-2
     cleared-requires

@@ -1,7 +1,6 @@
 -- `writing::put_bundle` meets its contract.
 use mathlib.Core.Path.{_∙_}
 use native.Mathlib.Omega.{arith}
-use Rattle.wire.specs.declared.Kind.the-variants.{Bundle}
 use Rattle.wire.specs.Message.{kind, contentLength}
 use Rattle.writing.specs.Written.{contentOf, written}
 use Rattle.writing.proofs.Written.{header-put}
@@ -23,9 +22,9 @@ same-length c = search needs
 
 returns : tie.Need-returns
 unfolding written kind contentLength contentOf
-returns c =
+returns c = λ v.
     let a = c .before .before .before .before .before .before .before .before .before .before .args in
-    c .before .before .copy-into .ensures ∙ rw (c .before .before .before .before .before .before .put-header .ensures) (header-put (a .frame .now) (a .at) Bundle _ (a .content .now) (omega arith))
+    c .before .before .copy-into .ensures ∙ rw (c .before .before .before .before .before .before .put-header .ensures) (header-put (a .frame .now) (a .at) 2 _ (a .content .now) (omega arith))
 
 pub put-bundle-spec : {M : Type 1} → statement M
 put-bundle-spec =

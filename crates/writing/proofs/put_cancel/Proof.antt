@@ -3,7 +3,6 @@ use mathlib.Core.Path.{_∙_}
 use native.Mathlib.Omega.{arith}
 use Rattle.octets.specs.Octets.{be32}
 use Rattle.octets.proofs.Numbers.{length-be32}
-use Rattle.wire.specs.declared.Kind.the-variants.{Cancel}
 use Rattle.wire.specs.Message.{kind, contentLength}
 use Rattle.writing.specs.Written.{contentOf, written}
 use Rattle.writing.proofs.Written.{header-put}
@@ -25,9 +24,9 @@ same-length c = search needs
 
 returns : tie.Need-returns
 unfolding written kind contentLength contentOf
-returns c =
+returns c = λ v.
     let a = c .before .before .before .before .before .before .before .before .before .args in
-    c .before .before .put-number .ensures ∙ rw (c .before .before .before .before .before .before .put-header .ensures) (header-put (a .frame .now) (a .at) Cancel 4 (be32 (a .number)) (rw (length-be32 (a .number)) (omega arith)))
+    c .before .before .put-number .ensures ∙ rw (c .before .before .before .before .before .before .put-header .ensures) (header-put (a .frame .now) (a .at) 5 4 (be32 (a .number)) (rw (length-be32 (a .number)) (omega arith)))
 
 pub put-cancel-spec : {M : Type 1} → statement M
 put-cancel-spec =

@@ -4,9 +4,6 @@ use Rattle.writing.specs.Written.{header}
 use Rattle.writing.proofs.put_header.Statement.{statement}
 use Rattle.writing.proofs.put_header.Tie as tie
 
-type-of-requires : tie.Need-type-of-requires
-type-of-requires c κs = search needs
-
 cast-b : tie.Need-cast-b
 cast-b c = search needs
 
@@ -24,8 +21,8 @@ same-length c = search needs
 
 returns : tie.Need-returns
 unfolding header
-returns c = rw (← c .before .before .before .before .type-of .ensures) (c .before .before .put-four .ensures)
+returns c = c .before .before .put-four .ensures
 
 pub put-header-spec : {M : Type 1} → statement M
 put-header-spec =
-    tie.close (tie.spec type-of-requires cast-b cast-c cast-d put-four-requires same-length returns)
+    tie.close (tie.spec cast-b cast-c cast-d put-four-requires same-length returns)

@@ -6,8 +6,8 @@ use borrow.Author.Needs.{needs}
 use Rattle.writing.proofs.put_piece.Statement.{statement}
 use Rattle.writing.proofs.put_piece.Tie as tie
 
-piece-kind-requires : tie.Need-piece-kind-requires
-piece-kind-requires c κs = search needs
+piece-type-requires : tie.Need-piece-type-requires
+piece-type-requires c κs = search needs
 
 add-put-header : tie.Need-add-put-header
 add-put-header c = search needs
@@ -40,14 +40,14 @@ returns : tie.Need-returns
 returns c =
     let a = c .before .before .before .before .before .before .before .before .before .before .before .before .before .before .before .before .before .before .before .args in
     c .before .before .copy-into .ensures
-    ∙ rw (c .before .before .before .before .before .before .put-number2 .ensures, c .before .before .before .before .before .before .before .before .before .before .put-number .ensures, c .before .before .before .before .before .before .before .before .before .before .before .before .before .before .put-header .ensures, c .before .before .before .before .before .before .before .before .before .before .before .before .before .before .before .piece-kind .ensures)
-    (piece-put (a .frame .now) (a .at) (a .ending) (a .number) (a .index) (a .part .now) (omega arith))
+    ∙ rw (c .before .before .before .before .before .before .put-number2 .ensures, c .before .before .before .before .before .before .before .before .before .before .put-number .ensures, c .before .before .before .before .before .before .before .before .before .before .before .before .before .before .put-header .ensures, c .before .before .before .before .before .before .before .before .before .before .before .before .before .before .before .piece-type .ensures)
+    (piece-put (a .frame .now) (a .at) (a .version) (a .ending) (a .number) (a .index) (a .part .now) (omega arith))
 
 pub put-piece-spec : {M : Type 1} → statement M
 put-piece-spec =
     tie.close
     (tie.spec
-    piece-kind-requires
+    piece-type-requires
     add-put-header
     put-header-requires
     add-put-number

@@ -40,9 +40,29 @@ wide-requires-4 c κs = search needs
 number-at-requires-3 : tie.Need-number-at-requires-3
 number-at-requires-3 c κs = search needs
 
+element-copy-out-version-of : tie.Need-element-copy-out-version-of
+element-copy-out-version-of c = search needs
+
+version-of-requires : tie.Need-version-of-requires
+version-of-requires c κs = search needs
+
 returns : tie.Need-returns
 unfolding stateOf
-returns c = rw (c .before .before .before .before .before .before .before .before .before .before .before .before .before .before .before .before .wide .ensures, c .before .before .before .before .before .before .before .before .before .before .before .before .before .before .before .before .before .number16-at .ensures, c .before .before .before .before .before .before .before .before .before .before .before .before .before .wide2 .ensures, c .before .before .before .before .before .before .before .before .before .before .before .before .before .before .number16-at2 .ensures, c .before .before .before .before .before .before .before .before .before .before .before .number-at .ensures, c .before .before .before .before .before .before .before .before .number-at2 .ensures, c .before .before .before .before .before .wide3 .ensures, c .before .before .before .before .before .before .number16-at3 .ensures, c .before .before .wide4 .ensures, c .before .before .before .number16-at4 .ensures, c .number-at3 .ensures)
+returns c =
+    rw (
+      c .before .before .before .before .before .before .before .before .before .before .before .before .before .before .before .before .before .before .wide .ensures,
+      c .before .before .before .before .before .before .before .before .before .before .before .before .before .before .before .before .before .before .before .number16-at .ensures,
+      c .before .before .before .before .before .before .before .before .before .before .before .before .before .before .before .wide2 .ensures,
+      c .before .before .before .before .before .before .before .before .before .before .before .before .before .before .before .before .number16-at2 .ensures,
+      c .before .before .before .before .before .before .before .before .before .before .before .before .before .number-at .ensures,
+      c .before .before .before .before .before .before .before .before .before .before .number-at2 .ensures,
+      c .before .before .before .before .before .before .before .wide3 .ensures,
+      c .before .before .before .before .before .before .before .before .number16-at3 .ensures,
+      c .before .before .before .before .wide4 .ensures,
+      c .before .before .before .before .before .number16-at4 .ensures,
+      c .before .before .number-at3 .ensures,
+      c .version-of .ensures,
+    )
 
 pub state-of-spec : {M : Type 1} → statement M
 state-of-spec =
@@ -60,4 +80,6 @@ state-of-spec =
     number16-at-requires-4
     wide-requires-4
     number-at-requires-3
+    element-copy-out-version-of
+    version-of-requires
     returns)

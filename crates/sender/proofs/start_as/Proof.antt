@@ -1,9 +1,9 @@
--- `sender::start` meets its contract.
+-- `sender::start_as` meets its contract.
 use Rattle.sender.specs.Answers.{startReply}
 use Rattle.sender.specs.Calls.{start}
 use borrow.Author.Needs.{needs}
-use Rattle.sender.proofs.start.Statement.{statement}
-use Rattle.sender.proofs.start.Tie as tie
+use Rattle.sender.proofs.start_as.Statement.{statement}
+use Rattle.sender.proofs.start_as.Tie as tie
 
 sized-requires : tie.Need-sized-requires
 sized-requires c κs = search needs
@@ -16,5 +16,5 @@ returns-2 : tie.Need-returns-2
 unfolding start startReply
 returns-2 c = rw (← c .before .sized .ensures, c .if1 .left)
 
-pub start-spec : {M : Type 1} → statement M
-start-spec = tie.close (tie.spec sized-requires returns returns-2)
+pub start-as-spec : {M : Type 1} → statement M
+start-as-spec = tie.close (tie.spec sized-requires returns returns-2)
