@@ -4,6 +4,9 @@
  *
  *     cc -std=c99 -I include -o send_receive hosts/c/send_receive.c target/staticlib/libboard.a
  *     cc -std=c99 -o send_receive send_receive.c $(pkg-config --cflags --libs btpu)
+ *
+ * This is draft 02. For draft 00 call btpu_receiver_start_00 and btpu_sender_start_00 instead of
+ * the starts here; nothing else differs.
  */
 #include <stdio.h>
 #include <string.h>

@@ -1,6 +1,7 @@
 //! The command line of a subcommand: options with values, and operands.
 
 use crate::outcome::Failure;
+use btpu::Draft;
 use std::ffi::{OsStr, OsString};
 use std::ops::RangeInclusive;
 use std::path::Path;
@@ -101,6 +102,18 @@ impl Arguments {
                 range.end(),
                 value.display()
             )),
+        }
+    }
+
+    /// The draft that --draft names.
+    pub fn draft(&self) -> Result<Option<Draft>, Failure> {
+        let Some(value) = self.value("--draft") else {
+            return Ok(None);
+        };
+        let mut drafts = Draft::ALL.into_iter();
+        match drafts.find(|draft| value == &*draft.to_string()) {
+            Some(draft) => Ok(Some(draft)),
+            None => usage(format!("--draft takes 00 or 02, not {}", value.display())),
         }
     }
 

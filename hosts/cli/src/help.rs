@@ -1,11 +1,11 @@
 //! What --help says.
 
 pub const USAGE: &str = "\
-usage: btpu send --frame-size P --first N [--state FILE] FILE...
-       btpu receive [--state FILE] [--out DIR]
+usage: btpu send --frame-size P --first N [--draft D] [--state FILE] FILE...
+       btpu receive [--draft D] [--state FILE] [--out DIR]
        btpu record FILE
        btpu play FILE [--messages N]
-       btpu inspect [FILE]
+       btpu inspect [--draft D] [FILE]
        btpu [COMMAND] --help | --version
 ";
 
@@ -23,13 +23,20 @@ A line has one frame: 1 to 2,048 octets as pairs of hex digits, upper or lower
 case. Blanks and a carriage return around it are allowed; empty lines and lines
 that start with # are passed over.
 
+The protocol has two drafts, draft-ietf-dtn-btpu-02 and draft-ietf-dtn-btpu-00.
+send, receive and inspect go by draft 02, or with --draft 00 by draft 00; play
+goes by draft 02 alone. A frame does not say of which draft it is: frames of the
+other draft are read as if they were of the draft in use. They may be refused,
+their transfers may be given up, and a single piece may be handed out as a
+bundle.
+
 Exit: 0 if all went well, also where the reader of standard output left; 1 if
 something could not be read or written or was damaged, or if there were bad
 lines or refused frames; 2 for a command line that makes no sense.
 ";
 
 pub const SEND: (&str, &str) = (
-    "usage: btpu send --frame-size P --first N [--state FILE] FILE...\n",
+    "usage: btpu send --frame-size P --first N [--draft D] [--state FILE] FILE...\n",
     "
 Cuts each FILE, a bundle of 1 to 4,096 octets, into frames and writes them to
 standard output, one a line in hex. FILE - is standard input. All files are
@@ -38,11 +45,14 @@ last line on standard error has the next transfer number.
 
   --frame-size P  octets of a frame, 128 to 2048
   --first N       number of the first transfer, 0 to 4294967295
+  --draft D       draft of the frames, 00 or 02; 02 if it is left out
   --state FILE    keeps the sender's state over runs. The first run makes the
-                  file and needs the other two options; later runs take frame
-                  size and number from it, so that numbers go on by themselves.
-                  Numbers are stored as taken before their frames are written:
-                  after a crash some may be left out, and none is used again.
+                  file and needs frame size and number; later runs take both
+                  from it, so that numbers go on by themselves, and the draft,
+                  which they tell if it is 00. A --frame-size or --draft that
+                  differs from the file's is refused. Numbers are stored as
+                  taken before their frames are written: after a crash some may
+                  be left out, and none is used again.
 
 FILE.lock and FILE.new beside the state file belong to a run; a killed run may
 leave them behind.
@@ -50,7 +60,7 @@ leave them behind.
 );
 
 pub const RECEIVE: (&str, &str) = (
-    "usage: btpu receive [--state FILE] [--out DIR]\n",
+    "usage: btpu receive [--draft D] [--state FILE] [--out DIR]\n",
     "
 Reads frames from standard input, one a line in hex, and writes a line for each
 bundle as soon as its last piece has come:
@@ -58,13 +68,18 @@ bundle as soon as its last piece has come:
   bundle NUMBER LENGTH HEX   NUMBER is - for a bundle that came in one message
 
 A bad line or a refused frame is told on standard error, with its line, and the
-next line is taken. At the end standard error has the counts.
+next line is taken. At the end standard error has the counts, and before them
+the transfers given up that are in the window, if there are any.
 
+  --draft D     draft of the frames, 00 or 02; 02 if it is left out. Frames of
+                the other draft are not told apart: see btpu --help
   --state FILE  keeps the receiver's state over restarts. It is stored when all
                 bundles before it are out: at once after a frame, but not sooner
                 than 20 ms after the last time, and at the end. After a crash a
                 bundle may come twice; only what came after the last store is
-                lost. A file that is damaged is refused and left as it is.
+                lost. A file that is damaged is refused and left as it is. The
+                draft is kept too: a run without --draft goes on in it, and
+                tells it if it is 00; a --draft that differs is refused.
   --out DIR     writes each bundle to a file of its own in DIR, which is there
                 as a whole or not at all: COUNT-NUMBER.bundle. Its name stands
                 on standard output in the place of HEX. COUNT goes on over
@@ -85,6 +100,10 @@ recording holds at most 1,024 frames and 61,440 octets: at a frame that would
 pass that, the command ends with 1 and the frames before it are kept. Bad lines
 are told on standard error and passed over.
 
+Frames are kept as they are, whatever their draft, and the recording does not
+name it. btpu play reads them as draft 02: to see frames of draft 00 use btpu
+inspect --draft 00.
+
 FILE.lock and FILE.new beside the recording belong to a run; a killed run may
 leave them behind.
 ",
@@ -93,25 +112,30 @@ leave them behind.
 pub const PLAY: (&str, &str) = (
     "usage: btpu play FILE [--messages N]\n",
     "
-Plays a recording on a fresh receiver and writes a line for each bundle, as btpu
-receive does:
+Plays a recording on a fresh receiver of draft 02 and writes a line for each
+bundle, as btpu receive does:
 
   bundle NUMBER LENGTH HEX   NUMBER is - for a bundle that came in one message
 
-Standard error has the frames refused, in words, and the count of messages.
-FILE - is standard input.
+Standard error has the frames refused, in words, the transfers given up that are
+in the window at the end, if there are any, and the count of messages. FILE - is
+standard input. Frames of draft 00 are read as draft 02 too: see btpu --help.
 
   --messages N  stops after N messages; a run of padding is one message
 ",
 );
 
 pub const INSPECT: (&str, &str) = (
-    "usage: btpu inspect [FILE]\n",
+    "usage: btpu inspect [--draft D] [FILE]\n",
     "
 Shows the messages of each frame in words (type, transfer number, index, length,
 hints), the bundles that it completes, and the window of the receiver after it:
 what is held and what is missing of each transfer. A refused frame is shown up
 to its bad message, with the refusal. FILE has frames in hex, one a line, or is
 a recording: its content decides. Without FILE, or with -, it is standard input.
+
+  --draft D  draft by which frames and window are shown, 00 or 02; 02 if it is
+             left out. A recording does not name its draft: its frames are shown
+             by D too.
 ",
 );

@@ -15,12 +15,13 @@ use std::path::Path;
 use std::time::Duration;
 
 pub fn run(arguments: &Arguments) -> Ended {
+    let draft = arguments.draft()?.unwrap_or_default();
     let input = match arguments.operands(0..=1, "FILE")?.first() {
         Some(file) if file != "-" => Input::file(Path::new(file))?,
         _ => Input::standard()?,
     };
     let mut inspection = Inspection {
-        receiver: Receiver::new(),
+        receiver: Receiver::of_draft(draft),
         output: Output::standard()?,
         notes: Notes::new("inspect"),
         frames: 0,
@@ -84,7 +85,7 @@ impl Inspection {
             Ok(bundles) => self.taken(frame, &bundles),
             Err(refusal) => self.not_taken(frame, refusal),
         }
-        for line in window_view::lines(&self.receiver.window()) {
+        for line in window_view::lines(&self.receiver) {
             self.output.line(format_args!("  {line}"));
         }
         self.output.flush_full()
@@ -113,7 +114,7 @@ impl Inspection {
     }
 
     fn messages(&mut self, frame: &[u8], end: usize) {
-        for message in messages(frame, end) {
+        for message in messages(self.receiver.draft(), frame, end) {
             self.output
                 .line(format_args!("  octet {}: {}", message.at, message.words));
         }

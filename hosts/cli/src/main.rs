@@ -5,6 +5,7 @@
 mod arguments;
 mod bundle_files;
 mod checksum;
+mod draft;
 mod drive;
 mod help;
 mod hex;
@@ -43,13 +44,13 @@ const COMMANDS: [Command; 5] = [
     Command {
         name: "send",
         help: help::SEND,
-        options: &["--frame-size", "--first", "--state"],
+        options: &["--frame-size", "--first", "--draft", "--state"],
         run: send::run,
     },
     Command {
         name: "receive",
         help: help::RECEIVE,
-        options: &["--state", "--out"],
+        options: &["--draft", "--state", "--out"],
         run: |arguments| {
             arguments.operands(0..=0, "nothing")?;
             receive::run(arguments)
@@ -70,7 +71,7 @@ const COMMANDS: [Command; 5] = [
     Command {
         name: "inspect",
         help: help::INSPECT,
-        options: &[],
+        options: &["--draft"],
         run: inspect::run,
     },
 ];

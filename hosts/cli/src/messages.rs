@@ -1,6 +1,7 @@
 //! The messages of a frame in words.
 
 use crate::words::counted;
+use btpu::Draft;
 use std::fmt::Write;
 
 /// A message: where it starts, and what it is.
@@ -10,12 +11,12 @@ pub struct Message {
     pub words: String,
 }
 
-/// The messages of a frame up to a place; all of them are well formed, as a receiver found.
-pub fn messages(frame: &[u8], end: usize) -> Vec<Message> {
+/// The messages of a frame up to a place; all of them are well formed, as a receiver of the draft found.
+pub fn messages(draft: Draft, frame: &[u8], end: usize) -> Vec<Message> {
     let mut list = Vec::new();
     let mut at = 0;
     while at < end.min(frame.len()) {
-        let Some((words, length)) = message(&frame[at..end]) else {
+        let Some((words, length)) = message(draft, &frame[at..end]) else {
             break;
         };
         list.push(Message { at, words });
@@ -25,7 +26,7 @@ pub fn messages(frame: &[u8], end: usize) -> Vec<Message> {
 }
 
 /// The first message in words, and its octets in all; None if it is not well formed.
-fn message(octets: &[u8]) -> Option<(String, usize)> {
+fn message(draft: Draft, octets: &[u8]) -> Option<(String, usize)> {
     if octets.first() == Some(&0) {
         let length = octets.iter().take_while(|&&octet| octet == 0).count();
         return Some((
@@ -33,15 +34,19 @@ fn message(octets: &[u8]) -> Option<(String, usize)> {
             length,
         ));
     }
-    let (&[kind, flags, _, _], behind) = octets.split_first_chunk()?;
-    let length = (number(&octets[1..4])? & 0xf_ffff) as usize;
+    let (header, behind) = octets.split_first_chunk::<4>()?;
+    let (kind, rest) = (header[0], number(&header[1..])?);
+    let (flags, length) = match draft {
+        Draft::Draft00 => (0, rest),
+        Draft::Draft02 => (rest >> 20, rest & 0xf_ffff),
+    };
+    let length = length as usize;
     let body = behind.get(..length)?;
-    let flags = flags >> 4;
     let (hints, content) = match kind {
         2..=5 if flags & 8 != 0 => hints(body)?,
         _ => (String::new(), body),
     };
-    let mut words = described(kind, content)?;
+    let mut words = described(draft, kind, content)?;
     let _ = write!(words, "; message length {length}{hints}");
     if flags & 7 != 0 {
         let _ = write!(words, "; reserved flag bits {:03b}, ignored", flags & 7);
@@ -49,16 +54,16 @@ fn message(octets: &[u8]) -> Option<(String, usize)> {
     Some((words, 4 + length))
 }
 
-fn described(kind: u8, content: &[u8]) -> Option<String> {
+fn described(draft: Draft, kind: u8, content: &[u8]) -> Option<String> {
     let octets = counted(content.len(), "octet");
     Some(match kind {
         1 => format!("definite padding, {octets}"),
         2 => format!("bundle, {octets}"),
         3 | 4 => {
-            let name = if kind == 3 {
-                "transfer segment"
-            } else {
-                "transfer end"
+            let name = match (draft, kind) {
+                (Draft::Draft00, 3) => "transfer start",
+                (Draft::Draft02, 4) => "transfer end",
+                _ => "transfer segment",
             };
             let transfer = number(content.get(..4)?)?;
             let index = number(content.get(4..8)?)?;
@@ -99,16 +104,16 @@ fn number(octets: &[u8]) -> Option<u32> {
 mod tests {
     use super::*;
 
-    fn words(frame: &[u8]) -> Vec<(usize, String)> {
-        let list = messages(frame, frame.len());
-        list.into_iter()
-            .map(|message| (message.at, message.words))
-            .collect()
+    #[track_caller]
+    fn one_of(draft: Draft, frame: &[u8], expected: &str) {
+        let words = expected.to_string();
+        let expected = [Message { at: 0, words }];
+        assert_eq!(messages(draft, frame, frame.len()), expected);
     }
 
     #[track_caller]
     fn one(frame: &[u8], expected: &str) {
-        assert_eq!(words(frame), [(0, expected.to_string())]);
+        one_of(Draft::Draft02, frame, expected);
     }
 
     #[test]
@@ -138,6 +143,40 @@ mod tests {
     }
 
     #[test]
+    fn types_and_lengths_of_draft_00() {
+        let one = |frame: &[u8], expected| one_of(Draft::Draft00, frame, expected);
+        one(&[0], "indefinite padding, 1 octet");
+        one(
+            &[1, 0, 0, 1, 9],
+            "definite padding, 1 octet; message length 1",
+        );
+        one(&[2, 0, 0, 3, 2, 0, 9], "bundle, 3 octets; message length 3");
+        one(
+            &[3, 0, 0, 10, 0, 0, 1, 0, 0, 0, 0, 2, 7, 7],
+            "transfer start, transfer 256, index 2, 2 octets of data; message length 10",
+        );
+        one(
+            &[4, 0, 0, 8, 255, 255, 255, 255, 0, 0, 0, 0],
+            "transfer segment, transfer 4294967295, index 0, 0 octets of data; message length 8",
+        );
+        one(
+            &[5, 0, 0, 4, 0, 0, 0, 5],
+            "transfer cancel, transfer 5; message length 4",
+        );
+        one(
+            &[6, 0, 0, 1, 1],
+            "type 6, unknown and passed over, 1 octet; message length 1",
+        );
+        let flagged = [2, 0x10, 0, 0];
+        assert_eq!(messages(Draft::Draft00, &flagged, 4), []);
+        let long = [&[1, 0x10, 0, 0][..], &[0; 0x10_0000]].concat();
+        one(
+            &long,
+            "definite padding, 1048576 octets; message length 1048576",
+        );
+    }
+
+    #[test]
     fn hints_and_reserved_flag_bits() {
         one(
             &[2, 0x80, 0, 7, 3, 1, 0xff, 4, 0, 0x41, 0x42],
@@ -152,9 +191,13 @@ mod tests {
     #[test]
     fn messages_stand_one_behind_another_and_a_bad_one_ends_the_list() {
         let frame = [0, 0, 2, 0, 0, 1, 0, 0, 0, 2, 0, 0, 9];
-        let places: Vec<usize> = messages(&frame, frame.len()).iter().map(|m| m.at).collect();
-        assert_eq!(places, [0, 2, 7]);
-        let places: Vec<usize> = messages(&frame, 7).iter().map(|m| m.at).collect();
-        assert_eq!(places, [0, 2]);
+        for draft in Draft::ALL {
+            let places = |end| -> Vec<usize> {
+                let list = messages(draft, &frame, end);
+                list.iter().map(|message| message.at).collect()
+            };
+            assert_eq!(places(frame.len()), [0, 2, 7]);
+            assert_eq!(places(7), [0, 2]);
+        }
     }
 }

@@ -4,6 +4,7 @@ use crate::arguments::Arguments;
 use crate::outcome::{file_error, Ended, Failure, Notes, Verdict};
 use crate::output::{bundle_line, Output};
 use crate::progress::Progress;
+use crate::window_view;
 use btpu::raw::MAX_RECORDING;
 use btpu::{Bundle, Playback, Receiver, Recording, Refusal};
 use std::ffi::OsStr;
@@ -26,7 +27,11 @@ pub fn run(arguments: &Arguments) -> Ended {
     let playback = recording.play(limit.unwrap_or(u64::MAX));
     let total = recording.frames().len() + playback.bundles().len();
     let mut progress = Progress::new(total);
-    let walk = Walk::of(&recording, &mut progress);
+    let mut walk = Walk::of(&recording, &mut progress);
+    if limit.is_some() {
+        // The walk goes on to the end and may give up more than a playback that stops.
+        walk.given_up = None;
+    }
     if io::stdout().is_terminal() {
         // Bundles are listed on the same screen.
         progress.finish();
@@ -56,6 +61,7 @@ fn front<R: Read>(source: R) -> io::Take<R> {
 struct Walk {
     numbers: Vec<Option<u32>>,
     refused: Vec<(usize, Refusal)>,
+    given_up: Option<String>,
 }
 
 impl Walk {
@@ -69,7 +75,12 @@ impl Walk {
             }
             progress.step();
         }
-        Walk { numbers, refused }
+        let given_up = window_view::given_up(&receiver);
+        Walk {
+            numbers,
+            refused,
+            given_up,
+        }
     }
 }
 
@@ -84,7 +95,7 @@ fn list(playback: &Playback, walk: &Walk, progress: &mut Progress) -> Result<(),
     output.flush()
 }
 
-/// The frames refused and the count of messages.
+/// The frames refused, the transfers given up and the count of messages.
 fn summary(playback: &Playback, walk: &Walk) -> Verdict {
     let mut notes = Notes::new("play");
     for (place, refusal) in walk.refused.iter().take(playback.refused.len()) {
@@ -92,6 +103,9 @@ fn summary(playback: &Playback, walk: &Walk) -> Verdict {
             "frame {}: frame refused: {refusal}",
             place + 1
         ));
+    }
+    if let Some(words) = &walk.given_up {
+        notes.say(words);
     }
     notes.say(format_args!(
         "messages treated {}, frames refused {}, bundles {}",

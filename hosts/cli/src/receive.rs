@@ -2,6 +2,7 @@
 
 use crate::arguments::Arguments;
 use crate::bundle_files::BundleFiles;
+use crate::draft;
 use crate::drive::{drive, InputEnd, Taker};
 use crate::input::Input;
 use crate::lines::{BadLine, TakeLine};
@@ -9,6 +10,7 @@ use crate::outcome::{Ended, Failure, Notes, Verdict};
 use crate::output::{bundle_front, bundle_line, Output};
 use crate::pace::Pace;
 use crate::state::{Kind, StateFile};
+use crate::window_view;
 use btpu::{Bundle, Receiver};
 use std::fmt::Display;
 use std::time::Duration;
@@ -45,11 +47,19 @@ struct Reception {
 
 impl Reception {
     fn open(arguments: &Arguments) -> Result<Reception, Failure> {
+        let given = arguments.draft()?;
+        let mut notes = Notes::new("receive");
         let state = match arguments.path("--state") {
             Some(path) => Some(StateFile::open(path, Kind::Receiver)?),
             None => None,
         };
-        let (filed, receiver) = restored(state.as_ref())?;
+        let (filed, receiver) = match restored(state.as_ref())? {
+            Some((filed, receiver)) => {
+                draft::go_on(receiver.draft(), given, &mut notes)?;
+                (filed, receiver)
+            }
+            None => (0, Receiver::of_draft(given.unwrap_or_default())),
+        };
         let files = match arguments.path("--out") {
             Some(path) => Some(BundleFiles::open(path, filed)?),
             None => None,
@@ -61,7 +71,7 @@ impl Reception {
             files,
             filed,
             output: Output::standard()?,
-            notes: Notes::new("receive"),
+            notes,
             taken: 0,
             refused: 0,
             bad_lines: 0,
@@ -111,6 +121,9 @@ impl Reception {
     }
 
     fn summary(&mut self) {
+        if let Some(words) = window_view::given_up(&self.receiver) {
+            self.notes.say(words);
+        }
         let (taken, refused) = (self.taken, self.refused);
         let (bad_lines, bundles) = (self.bad_lines, self.bundles);
         self.notes.say(format_args!(
@@ -120,16 +133,16 @@ impl Reception {
     }
 }
 
-/// The bundles written to files so far, and the receiver, as the state file has them.
-fn restored(state: Option<&StateFile>) -> Result<(u64, Receiver), Failure> {
+/// The bundles written to files so far, and the receiver, as the state file has them; None if there was no file.
+fn restored(state: Option<&StateFile>) -> Result<Option<(u64, Receiver)>, Failure> {
     let Some((state, content)) = state.and_then(|state| Some((state, state.stored()?))) else {
-        return Ok((0, Receiver::new()));
+        return Ok(None);
     };
     let Some((filed, saved)) = content.split_first_chunk() else {
         return Err(state.refuse("its content is too short for a receiver"));
     };
     let receiver = Receiver::restore(saved).map_err(|error| state.refuse(&error.to_string()))?;
-    Ok((u64::from_be_bytes(*filed), receiver))
+    Ok(Some((u64::from_be_bytes(*filed), receiver)))
 }
 
 impl Reception {

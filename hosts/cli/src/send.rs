@@ -1,12 +1,13 @@
 //! `btpu send`: files cut into frames.
 
 use crate::arguments::Arguments;
+use crate::draft;
 use crate::hex;
 use crate::outcome::{Ended, Failure, Notes, Verdict};
 use crate::output::Output;
 use crate::state::{Kind, StateFile};
 use btpu::raw::{MAX_BUNDLE, MAX_FRAME_SIZE, MIN_FRAME_SIZE};
-use btpu::{Refusal, Sender};
+use btpu::{Draft, Refusal, Sender};
 use std::ffi::OsString;
 use std::fmt::Display;
 use std::fs::File;
@@ -24,7 +25,7 @@ pub fn run(arguments: &Arguments) -> Ended {
         None => (given.fresh("")?, None),
         Some(path) => {
             let state = StateFile::open(path, Kind::Sender)?;
-            (given.sender(&state)?, Some(state))
+            (given.sender(&state, &mut notes)?, Some(state))
         }
     };
     let bundles = read_all(files, &mut notes)?;
@@ -43,6 +44,7 @@ pub fn run(arguments: &Arguments) -> Ended {
 struct Given {
     frame_size: Option<u64>,
     first: Option<u64>,
+    draft: Option<Draft>,
 }
 
 impl Given {
@@ -51,6 +53,7 @@ impl Given {
         Ok(Given {
             frame_size: arguments.number("--frame-size", sizes)?,
             first: arguments.number("--first", 0..=u32::MAX.into())?,
+            draft: arguments.draft()?,
         })
     }
 
@@ -59,11 +62,12 @@ impl Given {
         let missing = |name: &str| Failure::Usage(format!("{name} is missing{why}"));
         let frame_size = self.frame_size.ok_or_else(|| missing("--frame-size"))?;
         let first = self.first.ok_or_else(|| missing("--first"))?;
-        Sender::new(frame_size as usize, first as u32).map_err(impossible)
+        let draft = self.draft.unwrap_or_default();
+        Sender::of_draft(draft, frame_size as usize, first as u32).map_err(impossible)
     }
 
     /// The sender that a state file keeps, or one that begins if there is no file yet.
-    fn sender(&self, state: &StateFile) -> Result<Sender, Failure> {
+    fn sender(&self, state: &StateFile, notes: &mut Notes) -> Result<Sender, Failure> {
         let Some(stored) = state.stored() else {
             return self.fresh(": there is no state file yet, and so nothing to go on from");
         };
@@ -78,12 +82,16 @@ impl Given {
             )));
         }
         match self.frame_size {
-            Some(size) if size != sender.frame_size() as u64 => Err(Failure::Usage(format!(
-                "--frame-size {size} differs from the frame size {} of the state file: leave --frame-size out, or name another state file",
-                sender.frame_size()
-            ))),
-            _ => Ok(sender),
+            Some(size) if size != sender.frame_size() as u64 => {
+                return Err(Failure::Usage(format!(
+                    "--frame-size {size} differs from the frame size {} of the state file: leave --frame-size out, or name another state file",
+                    sender.frame_size()
+                )));
+            }
+            _ => {}
         }
+        draft::go_on(sender.draft(), self.draft, notes)?;
+        Ok(sender)
     }
 }
 

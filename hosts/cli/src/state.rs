@@ -7,7 +7,8 @@
 //! last 4 octets     CRC-32 of all octets before
 //!
 //! Content of a sender: its image (24 octets), then its frame buffer. Content of a receiver: the number of
-//! bundles written to files so far (8 octets), its image (3,144 octets), its pool (65,536 octets).
+//! bundles written to files so far (8 octets), its image (3,144 octets), its pool (65,536 octets). The draft
+//! stands in the image.
 
 use crate::checksum::crc32;
 use crate::outcome::Failure;

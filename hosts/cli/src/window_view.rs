@@ -1,26 +1,23 @@
 //! A receiver's window in words.
 
 use crate::words::counted;
-use btpu::{Phase, Row, Window};
+use btpu::{Draft, Phase, Receiver, Row, Window};
 
 /// A line for the window, one for each open transfer, and one for the transfers of each other phase.
-pub fn lines(window: &Window) -> Vec<String> {
+pub fn lines(receiver: &Receiver) -> Vec<String> {
+    let window = receiver.window();
     let Some(greatest) = window.greatest else {
         return vec!["window: no transfer number has come yet".to_string()];
     };
     let oldest = greatest.wrapping_sub(15);
-    let mut rows: Vec<(u32, &Row)> = window
-        .rows
-        .iter()
-        .filter_map(|row| Some((row.number?, row)))
-        .collect();
-    rows.sort_by_key(|(number, _)| number.wrapping_sub(oldest));
+    let mut rows = oldest_first(&window);
     // Numbers before the first one that is known may never have been sent.
     let known = rows.iter().position(|(_, row)| row.phase != Phase::Free);
     rows.drain(..known.unwrap_or(0));
     let mut lines = vec![format!("window: transfers {oldest} to {greatest}")];
     let open = rows.iter().filter(|(_, row)| row.phase == Phase::Open);
-    lines.extend(open.map(|(number, row)| format!("  {number} open: {}", pieces(row))));
+    let held = |row| pieces(receiver.draft(), row);
+    lines.extend(open.map(|(number, row)| format!("  {number} open: {}", held(row))));
     let phases = [
         (Phase::Done, "done"),
         (Phase::Cancelled, "cancelled"),
@@ -28,16 +25,39 @@ pub fn lines(window: &Window) -> Vec<String> {
         (Phase::Free, "nothing came of"),
     ];
     for (phase, name) in phases {
-        let of_phase = rows.iter().filter(|(_, row)| row.phase == phase);
-        let numbers: Vec<u32> = of_phase.map(|(number, _)| *number).collect();
-        if !numbers.is_empty() {
-            lines.push(format!("  {name}: {}", ranges(&numbers)));
-        }
+        lines.extend(of_phase(&rows, phase).map(|numbers| format!("  {name}: {numbers}")));
     }
     lines
 }
 
-fn pieces(row: &Row) -> String {
+/// The transfers of the window that are given up, if there are any, and what gives them up.
+pub fn given_up(receiver: &Receiver) -> Option<String> {
+    let numbers = of_phase(&oldest_first(&receiver.window()), Phase::GivenUp)?;
+    let (draft, other) = match receiver.draft() {
+        Draft::Draft00 => ("00", "02"),
+        Draft::Draft02 => ("02", "00"),
+    };
+    Some(format!(
+        "transfers given up in the window: {numbers}; their pieces contradict each other, as those of \
+         draft {other} do for a receiver of draft {draft}, or exceed 64 pieces or 4,096 octets"
+    ))
+}
+
+fn oldest_first(window: &Window) -> Vec<(u32, &Row)> {
+    let rows = window.rows.iter();
+    let mut rows: Vec<(u32, &Row)> = rows.filter_map(|row| Some((row.number?, row))).collect();
+    let oldest = window.greatest.unwrap_or(0).wrapping_sub(15);
+    rows.sort_by_key(|(number, _)| number.wrapping_sub(oldest));
+    rows
+}
+
+fn of_phase(rows: &[(u32, &Row)], phase: Phase) -> Option<String> {
+    let rows = rows.iter().filter(|(_, row)| row.phase == phase);
+    let numbers: Vec<u32> = rows.map(|(number, _)| *number).collect();
+    (!numbers.is_empty()).then(|| ranges(&numbers))
+}
+
+fn pieces(draft: Draft, row: &Row) -> String {
     let mut held: Vec<u32> = row.pieces.iter().map(|piece| piece.index.into()).collect();
     held.sort_unstable();
     let octets: usize = row
@@ -51,22 +71,23 @@ fn pieces(row: &Row) -> String {
     let missing: Vec<u32> = (0..=end)
         .filter(|index| held.binary_search(index).is_err())
         .collect();
+    let highest = match draft {
+        Draft::Draft00 => "start index",
+        Draft::Draft02 => "last index",
+    };
     let missing = match (row.last, missing.is_empty()) {
-        (Some(_), _) => format!("missing {}", ranges(&missing)),
-        (None, true) => format!("missing from {} on, last index not known", end + 1),
+        (Some(last), _) => format!("missing {}, {highest} {last}", ranges(&missing)),
+        (None, true) => format!("missing from {} on, {highest} not known", end + 1),
         (None, false) => {
             let gaps = ranges(&missing);
             format!(
-                "missing {gaps} and from {} on, last index not known",
+                "missing {gaps} and from {} on, {highest} not known",
                 end + 1
             )
         }
     };
-    let last = row
-        .last
-        .map_or(String::new(), |last| format!(", last index {last}"));
     let octets = counted(octets, "octet");
-    format!("held {} ({octets}), {missing}{last}", ranges(&held))
+    format!("held {} ({octets}), {missing}", ranges(&held))
 }
 
 /// Rising numbers, with neighbours drawn together; 0 follows 4,294,967,295.
@@ -91,10 +112,13 @@ fn ranges(numbers: &[u32]) -> String {
 #[cfg(test)]
 mod tests {
     use super::*;
-    use btpu::Receiver;
 
-    fn piece(end: bool, transfer: u32, index: u32) -> Vec<u8> {
-        let kind = if end { 4 } else { 3 };
+    /// A piece, with the highest index of its transfer or another.
+    fn piece(draft: Draft, highest: bool, transfer: u32, index: u32) -> Vec<u8> {
+        let kind = match (draft, highest) {
+            (Draft::Draft02, true) | (Draft::Draft00, false) => 4,
+            _ => 3,
+        };
         [
             &[kind, 0, 0, 9][..],
             &transfer.to_be_bytes(),
@@ -113,20 +137,26 @@ mod tests {
         );
     }
 
-    #[test]
-    fn every_phase_in_words() {
-        let mut receiver = Receiver::new();
+    fn every_phase(draft: Draft) -> Receiver {
+        let mut receiver = Receiver::of_draft(draft);
         assert_eq!(
-            lines(&receiver.window()),
+            lines(&receiver),
             ["window: no transfer number has come yet"]
         );
-        receiver.receive(&piece(true, 1, 0)).unwrap();
+        assert_eq!(given_up(&receiver), None);
+        receiver.receive(&piece(draft, true, 1, 0)).unwrap();
         receiver.receive(&[5, 0, 0, 4, 0, 0, 0, 2]).unwrap();
-        receiver.receive(&piece(false, 3, 64)).unwrap();
-        receiver.receive(&piece(false, 4, 1)).unwrap();
-        receiver.receive(&piece(false, 5, 0)).unwrap();
-        receiver.receive(&piece(true, 6, 4)).unwrap();
-        receiver.receive(&piece(false, 6, 2)).unwrap();
+        receiver.receive(&piece(draft, false, 3, 64)).unwrap();
+        receiver.receive(&piece(draft, false, 4, 1)).unwrap();
+        receiver.receive(&piece(draft, false, 5, 0)).unwrap();
+        receiver.receive(&piece(draft, true, 6, 4)).unwrap();
+        receiver.receive(&piece(draft, false, 6, 2)).unwrap();
+        receiver
+    }
+
+    #[test]
+    fn every_phase_in_words() {
+        let mut receiver = every_phase(Draft::Draft02);
         let expected = [
             "window: transfers 4294967287 to 6",
             "  4 open: held 1 (1 octet), missing 0 and from 2 on, last index not known",
@@ -136,9 +166,14 @@ mod tests {
             "  cancelled: 2",
             "  given up: 3",
         ];
-        assert_eq!(lines(&receiver.window()), expected);
-        receiver.receive(&piece(true, 9, 0)).unwrap();
-        let view = lines(&receiver.window());
+        assert_eq!(lines(&receiver), expected);
+        let told = given_up(&receiver).unwrap();
+        assert!(told.starts_with("transfers given up in the window: 3; "));
+        let expected = expected.map(|line| line.replace("last index", "start index"));
+        assert_eq!(lines(&every_phase(Draft::Draft00)), expected);
+        let end = piece(Draft::Draft02, true, 9, 0);
+        receiver.receive(&end).unwrap();
+        let view = lines(&receiver);
         assert_eq!(view[0], "window: transfers 4294967290 to 9");
         assert_eq!(view[4], "  done: 1, 9");
         assert_eq!(view[7], "  nothing came of: 7, 8");

@@ -205,20 +205,19 @@ fn crc32(octets: &[u8]) -> u32 {
 #[test]
 fn a_state_that_is_not_sound_is_refused_whatever_its_checksum() {
     let directory = directory("state_unsound");
-    let mut octets = sound_state(&directory);
+    let octets = sound_state(&directory);
     let front = octets.len() - 4;
     assert_eq!(octets[front..], crc32(&octets[..front]).to_be_bytes());
-    // The phase of the first row.
-    octets[16 + 8 + 8] = 9;
-    let sum = crc32(&octets[..front]).to_be_bytes();
-    octets[front..].copy_from_slice(&sum);
     let state = directory.join("state");
-    refused(
-        &["receive", "--state", text(&state)],
-        &state,
-        &octets,
-        "refusal 1: ",
-    );
+    let words = ["receive", "--state", text(&state)];
+    // The draft, and the phase of the first row.
+    for (at, octet) in [(16 + 8 + 2, 2), (16 + 8 + 8, 9)] {
+        let mut octets = octets.clone();
+        octets[at] = octet;
+        let sum = crc32(&octets[..front]).to_be_bytes();
+        octets[front..].copy_from_slice(&sum);
+        refused(&words, &state, &octets, "refusal 1: ");
+    }
 }
 
 #[test]

@@ -29,14 +29,31 @@ fn help_and_version_of_all() {
 
 #[test]
 fn lines_of_help_fit_a_terminal() {
-    for command in COMMANDS {
-        let help = run(&[command, "--help"], b"").out;
+    let all = run(&["--help"], b"").out;
+    let each = COMMANDS.map(|command| run(&[command, "--help"], b"").out);
+    for help in each.iter().chain([&all]) {
         let long = help.lines().find(|line| line.chars().count() > 80);
         assert_eq!(long, None);
     }
 }
 
-const USAGE_ERRORS: [(&[&str], &str); 25] = [
+/// The drafts in full, and what each command does with them.
+#[test]
+fn help_says_of_drafts() {
+    let all = run(&["--help"], b"").out;
+    assert!(all.contains("draft-ietf-dtn-btpu-02") && all.contains("draft-ietf-dtn-btpu-00"));
+    for command in ["send", "receive", "inspect"] {
+        let help = run(&[command, "--help"], b"").out;
+        assert!(help.contains("[--draft D]") && help.contains("\n  --draft D "));
+        assert!(all.contains(help.lines().next().unwrap().trim_start_matches("usage: ")));
+    }
+    for command in ["record", "play"] {
+        let help = run(&[command, "--help"], b"").out;
+        assert!(help.contains("draft 02"), "{help}");
+    }
+}
+
+const USAGE_ERRORS: [(&[&str], &str); 33] = [
     (&[], "a command is missing"),
     (&["sned"], "there is no command sned"),
     (&["--bad"], "there is no command --bad"),
@@ -92,6 +109,39 @@ const USAGE_ERRORS: [(&[&str], &str); 25] = [
         "--messages takes a number",
     ),
     (&["inspect", "a", "b"], "b is one too many"),
+    (
+        &[
+            "send",
+            "--draft",
+            "01",
+            "--frame-size=128",
+            "--first=1",
+            "-",
+        ],
+        "--draft takes 00 or 02, not 01",
+    ),
+    (
+        &["receive", "--draft", "2"],
+        "--draft takes 00 or 02, not 2",
+    ),
+    (
+        &["inspect", "--draft=000"],
+        "--draft takes 00 or 02, not 000",
+    ),
+    (&["inspect", "--draft"], "--draft needs a value"),
+    (
+        &["receive", "--draft=00", "--draft=00"],
+        "--draft is given twice",
+    ),
+    (
+        &["play", "--draft", "02", "a"],
+        "there is no option --draft",
+    ),
+    (
+        &["record", "--draft", "00", "a"],
+        "there is no option --draft",
+    ),
+    (&["receive", "--drafts=00"], "there is no option --drafts"),
 ];
 
 #[test]

@@ -85,6 +85,19 @@ pub struct Live {
     pub child: Child,
     stdin: Option<ChildStdin>,
     lines: Receiver<String>,
+    errors: Receiver<String>,
+}
+
+/// The lines that come from a running command.
+pub fn lines_of(source: impl Read + Send + 'static) -> Receiver<String> {
+    let (to, lines) = channel();
+    thread::spawn(move || {
+        BufReader::new(source)
+            .lines()
+            .map_while(Result::ok)
+            .try_for_each(|line| to.send(line))
+    });
+    lines
 }
 
 impl Live {
@@ -92,19 +105,11 @@ impl Live {
         let mut command = btpu(words);
         command.stdin(Stdio::piped()).stdout(Stdio::piped());
         let mut child = command.stderr(Stdio::piped()).spawn().unwrap();
-        let stdin = child.stdin.take();
-        let (to, lines) = channel();
-        let output = BufReader::new(child.stdout.take().unwrap());
-        thread::spawn(move || {
-            output
-                .lines()
-                .map_while(Result::ok)
-                .try_for_each(|line| to.send(line))
-        });
         Live {
+            stdin: child.stdin.take(),
+            lines: lines_of(child.stdout.take().unwrap()),
+            errors: lines_of(child.stderr.take().unwrap()),
             child,
-            stdin,
-            lines,
         }
     }
 
@@ -121,6 +126,12 @@ impl Live {
         self.lines.recv_timeout(TIME_LIMIT).expect("a line in time")
     }
 
+    /// The next line of standard error.
+    pub fn error_line(&self) -> String {
+        let line = self.errors.recv_timeout(TIME_LIMIT);
+        line.expect("a line in time")
+    }
+
     pub fn no_line_within(&self, time: Duration) {
         assert!(self.lines.recv_timeout(time).is_err(), "there is a line");
     }
@@ -130,16 +141,10 @@ impl Live {
         self.child.wait().unwrap();
     }
 
-    /// Closes the input; exit code and standard error.
+    /// Closes the input; exit code and the lines of standard error that are left.
     pub fn end(mut self) -> (Option<i32>, String) {
         drop(self.stdin.take());
-        let mut err = String::new();
-        self.child
-            .stderr
-            .take()
-            .unwrap()
-            .read_to_string(&mut err)
-            .unwrap();
+        let err = self.errors.iter().map(|line| line + "\n").collect();
         (self.child.wait().unwrap().code(), err)
     }
 }
