@@ -3,7 +3,7 @@ use mathlib.Core.Bool.{true, false}
 use mathlib.Core.List.{List}
 use mathlib.Core.Path.{_≡_}
 use Prim.Native.Nat.{ℕ}
-use Rattle.window.specs.Window.{windowSize}
+use Rattle.rows.specs.State.{windowOf}
 use Rattle.rows.specs.declared.State.{State}
 use Rattle.rows.specs.Message.{draftOf}
 use Rattle.burst.specs.declared.Burst.{Burst}
@@ -19,7 +19,7 @@ image-refused image pool sizes octets frame place l result e = rw e
 
 -- what the parts of the call leave, put together
 pub image-taken : (image pool sizes octets : List ℕ) (frame place : ℕ) (l : Lists) (result : List ℕ) → isImage image ≡ true → (s : State) → s ≡ stateOf image
-    → (r : Burst) (pool′ : List ℕ) (l′ : Lists) → reply r pool′ l′ ≡ receiveBurst (draftOf s) windowSize (record { state = s; pool = pool }) sizes octets frame place l
+    → (r : Burst) (pool′ : List ℕ) (l′ : Lists) → reply r pool′ l′ ≡ receiveBurst (draftOf s) (windowOf s) (record { state = s; pool = pool }) sizes octets frame place l
     → (n : ℕ) (image′ result′ : List ℕ) → n ≡ status (r .answer) → image′ ≡ kept (r .answer) image (r .state) → result′ ≡ report (r .answer) result
     → _≡_ {A = Exported} (record { status = n; image = image′; pool = pool′; lists = l′; result = result′ }) (burst image pool sizes octets frame place l result)
 unfolding burst exported

@@ -5,7 +5,9 @@ use mathlib.Core.List.{List}
 use mathlib.Core.Option.{Option, none, some}
 use Prim.Native.Nat.{ℕ}
 use Rattle.wire.specs.Frame.{Item}
-use Rattle.window.specs.Window.{windowSize}
+use Rattle.window.specs.Window.{isWindow}
+use Rattle.wire.specs.declared.Version.{Version}
+use Rattle.rows.specs.State.{windowOf, fresh}
 use Rattle.rows.specs.Message.{Draft, draftOf, Board, messagesFrom}
 use Rattle.receiver.specs.Receive.{treat, receive}
 use Rattle.receiver.proofs.Calls.{Called, denied, treated, called, Treated, through, stops, treating}
@@ -28,11 +30,12 @@ use Rattle.playback.specs.declared.Answer.the-variants as Playing
 use Rattle.playback.specs.Call as Call
 use Rattle.playback.specs.Call.{Results}
 use Rattle.playback.proofs.Refusals.{play-refused}
-use Rattle.images.specs.Receiver.{isImage, stateOf}
+use Rattle.images.specs.Receiver.{isImage, stateOf, imageOf}
 use Rattle.images.specs.Sender as Images
 use Rattle.answers.specs.Receiver.{status, report, kept}
 use Rattle.answers.specs.Burst as Answered-burst
 use Rattle.answers.specs.Sender as Answers
+use Rattle.board.specs.Receiver as Starts
 use Rattle.board.specs.Receiver.{Exported, exported, received}
 use Rattle.board.specs.Burst as Bursts
 use Rattle.board.specs.Burst.{burst}
@@ -40,6 +43,9 @@ use Rattle.board.specs.Sender as Sending
 use Rattle.board.specs.Sender.{unlessImage, placedBy, cancelledBy, flushedBy, startedWith, started}
 use Rattle.board.specs.Recordings.{Recorded, written, recorded, Opened, openedAs, opened, Played, playedAs, played}
 use Rattle.board.specs.Refused.{SenderUnchanged, RefusedUnchanged}
+
+abbrev widthOf : List ℕ → ℕ
+widthOf image = windowOf (stateOf image)
 
 -- ---- the receiver
 
@@ -57,20 +63,28 @@ module _ (image pool frame : List ℕ) (place : ℕ) (output result : List ℕ) 
   is = messagesFrom D frame place
 
   -- a call that treats its frame returns 0
-  treat-status : Treated D windowSize b is output → status (treat D windowSize b is output .answer) ≡ 0
+  treat-status : Treated D (widthOf image) b is output → status (treat D (widthOf image) b is output .answer) ≡ 0
   treat-status (through a h q) = rw a
   treat-status (stops pre i suf h q a t hs v) = rw a
 
   receive-unchanged : Unchanged (received image pool frame place output result)
   unfolding received exported report kept
-  receive-unchanged = go (isImage image) (called D windowSize b frame place output)
+  receive-unchanged = go (isImage image) (called D (widthOf image) b frame place output)
     where
-      go : (i : Bool) → Called D windowSize b frame place output
-          → Unchanged (cond i (exported (receive windowSize b frame place output) image result)
+      go : (i : Bool) → Called D (widthOf image) b frame place output
+          → Unchanged (cond i (exported (receive b frame place output) image result)
           (record { status = 1; image = image; pool = pool; output = output; result = result }))
       go false c n = refl
       go true (denied q e) n = rw e
-      go true (treated e) n = absurd (n (rw e (treat-status (treating D windowSize b is output))))
+      go true (treated e) n = absurd (n (rw e (treat-status (treating D (widthOf image) b is output))))
+
+receiver-start-unchanged : (v : Version) (image : List ℕ) (w : ℕ) → (Starts.started v image w .0 ≡ 0 → ⊥) → Starts.started v image w .1 ≡ image
+unfolding Starts.started
+receiver-start-unchanged v image w = go (isWindow w)
+  where
+    go : (b : Bool) → let e : ℕ × List ℕ = cond b (0, imageOf (fresh v w)) (21, image) in (e .0 ≡ 0 → ⊥) → e .1 ≡ image
+    go true n = absurd (n refl)
+    go false n = refl
 
 -- ---- the burst
 
@@ -86,14 +100,14 @@ module _ (image pool sizes octets : List ℕ) (frame place : ℕ) (l : Lists) (r
 
   burst-unchanged : BurstUnchanged (burst image pool sizes octets frame place l result)
   unfolding burst Bursts.exported Answered-burst.report Answered-burst.kept
-  burst-unchanged = go (isImage image) (Spec.refusal bursting windowSize on sizes octets frame place (l .output)) refl
+  burst-unchanged = go (isImage image) (Spec.refusal bursting (widthOf image) on sizes octets frame place (l .output)) refl
     where
-      go : (i : Bool) (q : Option Refusal) → Spec.refusal bursting windowSize on sizes octets frame place (l .output) ≡ q
-          → BurstUnchanged (cond i (Bursts.exported (Spec.receiveBurst bursting windowSize on sizes octets frame place l) image result)
+      go : (i : Bool) (q : Option Refusal) → Spec.refusal bursting (widthOf image) on sizes octets frame place (l .output) ≡ q
+          → BurstUnchanged (cond i (Bursts.exported (Spec.receiveBurst bursting (widthOf image) on sizes octets frame place l) image result)
           (record { status = 1; image = image; pool = pool; lists = l; result = result }))
       go false q e n = refl
-      go true (some q) e n = rw (burst-refused bursting windowSize on sizes octets frame place l q e)
-      go true none e n = absurd (n (rw (burst-treated bursting windowSize on sizes octets frame place l e)))
+      go true (some q) e n = rw (burst-refused bursting (widthOf image) on sizes octets frame place l q e)
+      go true none e n = absurd (n (rw (burst-treated bursting (widthOf image) on sizes octets frame place l e)))
 
 -- ---- the sender
 
@@ -150,6 +164,7 @@ pub refused-unchanged : RefusedUnchanged
 unfolding started placedBy cancelledBy flushedBy recorded opened played
 refused-unchanged =
     record {
+      receiverStart = receiver-start-unchanged;
       receive = receive-unchanged;
       receiveBurst = burst-unchanged;
       senderStart = λ v image size first. start-unchanged image (Calls.start v size first);

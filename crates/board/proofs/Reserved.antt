@@ -10,7 +10,6 @@ use Rattle.wire.specs.declared.Version.the-variants.{Draft02}
 use Rattle.wire.specs.Reserved.{SameButReserved}
 use Rattle.receiver.specs.declared.Answer.{Answer}
 use Rattle.receiver.specs.declared.Answer.the-variants.{Delivered, Finished, Refused}
-use Rattle.window.specs.Window.{windowSize}
 use Rattle.rows.specs.Message.{Board}
 use Rattle.receiver.specs.Receive.{Reply, receive}
 use Rattle.receiver.proofs.Refusals as Refusals
@@ -26,7 +25,7 @@ on image pool = record { state = stateOf image; pool = pool }
 pub reserved-ignored : (image pool : List ℕ) {f g : List ℕ} → versionOf (getD image 2 0) ≡ Draft02 → SameButReserved f g → (place : ℕ) (output result : List ℕ)
     → received image pool f place output result ≡ received image pool g place output result
 unfolding received stateOf
-reserved-ignored image pool e r place output result = rw (Receiver.reserved-ignored windowSize (on image pool) e r place output)
+reserved-ignored image pool e r place output result = rw (Receiver.reserved-ignored (on image pool) e r place output)
 
 not-five : (a : Answer) → numberIn (status a) ≡ 5 → ⊥
 not-five (Delivered length next origin) e = omega arith
@@ -38,7 +37,7 @@ unfolding received exported
 never-five image pool frame place output result = go (isImage image)
   where
     r : Reply
-    r = receive windowSize (on image pool) frame place output
+    r = receive (on image pool) frame place output
 
     go : (b : Bool) → numberIn (cond b (exported r image result) (record { status = 1; image = image; pool = pool; output = output; result = result }) .status) ≡ 5 → ⊥
     go true e = not-five (r .answer) e

@@ -3,8 +3,8 @@ use mathlib.Core.Bool.{cond, _&&_}
 use mathlib.Core.List.{List}
 use Prim.Native.Nat.{ℕ}
 use Rattle.wire.specs.declared.Version.{Version}
-use Rattle.window.specs.Window.{windowSize}
-use Rattle.rows.specs.State.{sound, fresh, windowOf}
+use Rattle.window.specs.Window.{isWindow}
+use Rattle.rows.specs.State.{sound, fresh}
 use Rattle.receiver.specs.Receive.{Reply, receive}
 use Rattle.answers.specs.Receiver.{status, report, kept}
 use Rattle.images.specs.Receiver.{isImage, stateOf, imageOf}
@@ -31,12 +31,12 @@ exported r image result =
 unfoldable pub received : List ℕ → List ℕ → List ℕ → ℕ → List ℕ → List ℕ → Exported
 received image pool frame place output result =
     cond (isImage image)
-    (exported (receive (windowOf (stateOf image)) (record { state = stateOf image; pool = pool }) frame place output) image result)
+    (exported (receive (record { state = stateOf image; pool = pool }) frame place output) image result)
     (record { status = 1; image = image; pool = pool; output = output; result = result })
 
--- the image that the start of a draft writes
-unfoldable pub started : Version → List ℕ
-started v = imageOf (fresh v windowSize)
+-- what a start of a draft returns, and the image that it leaves: "4, 8 or 16, chosen at start ..., else refusal 21" (document 02, E6)
+unfoldable pub started : Version → List ℕ → ℕ → ℕ × List ℕ
+started v image w = cond (isWindow w) (0, imageOf (fresh v w)) (21, image)
 
 -- 0, or 1 for octets that are not the image of a sound state
 unfoldable pub checked : List ℕ → ℕ

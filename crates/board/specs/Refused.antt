@@ -1,5 +1,5 @@
 -- Demand 1 for the exported calls, in the order of include/btpu.h: whatever a call returns other than 0, it leaves all that it was lent as
--- it was. The receiver's starts refuse nothing, and the two checks are lent nothing to write.
+-- it was. The two checks are lent nothing to write.
 use mathlib.Core.Path.{_≡_}
 use mathlib.Core.List.{List}
 use Prim.Native.Nat.{ℕ}
@@ -22,6 +22,10 @@ SenderUnchanged image frame result e =
 -- document 01 of its numbers of refusal: "Each is given exactly in its case, the first that applies in this order, and changes no state
 -- and no lent memory."
 pub record RefusedUnchanged : Type 0 where
+  -- btpu_receiver_start, btpu_receiver_start_window, btpu_receiver_start_00
+  pub receiverStart : (v : Version) (image : List ℕ) (w : ℕ)
+      → let e : ℕ × List ℕ = Receiver.started v image w in
+      (e .0 ≡ 0 → ⊥) → e .1 ≡ image
   -- btpu_receive
   pub receive : (image pool frame : List ℕ) (place : ℕ) (output result : List ℕ)
       → let e : Receiver.Exported = received image pool frame place output result in

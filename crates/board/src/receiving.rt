@@ -1,25 +1,45 @@
 // The receiver's calls, on an image of its state.
 use wire::Version;
 ghost use mathlib.Core.Path.{_≡_};
+ghost use mathlib.Core.List.{List};
+ghost use Prim.Native.Nat.{ℕ};
 ghost use Rattle.wire.specs.declared.Version.the-variants.{Draft00, Draft02};
+ghost use Rattle.window.specs.Window.{plainWindow};
 ghost use Rattle.board.specs.Receiver as Spec;
 
-// Makes the image of a fresh receiver of draft 02.
-#[no_mangle]
-pub extern "C" fn btpu_receiver_start(state: &mut [u8; 3144]) -> u32
-    ensures { λ r. ⌜ (r ≡ 0) × (now (state .exit) ≡ Spec.started Draft02) ⌝ }
+// Makes the image of a fresh receiver of a draft, with a window of 4, 8 or 16.
+fn begin(version: Version, state: &mut [u8; 3144], window: u32) -> u32
+    ensures { λ r. ⌜ _≡_ {A = ℕ × List ℕ} (r, now (state .exit)) (Spec.started version (now (state .entry)) window) ⌝ }
 {
-    images::receiving::put_state(state, receiver::start());
-    0
+    let s = receiver::start_as(version, window);
+    if s.refusal == 0 {
+        let fresh = s.state;
+        images::receiving::put_state(state, fresh);
+        return 0;
+    }
+    s.refusal
 }
 
-// Makes the image of a fresh receiver of draft 00.
+// A receiver of draft 02 with the plain window.
 #[no_mangle]
-pub extern "C" fn btpu_receiver_start_00(state: &mut [u8; 3144]) -> u32
-    ensures { λ r. ⌜ (r ≡ 0) × (now (state .exit) ≡ Spec.started Draft00) ⌝ }
+pub extern "C" fn btpu_receiver_start(state: &mut [u8; 3144]) -> u32
+    ensures { λ r. ⌜ _≡_ {A = ℕ × List ℕ} (r, now (state .exit)) (Spec.started Draft02 (now (state .entry)) plainWindow) ⌝ }
 {
-    images::receiving::put_state(state, receiver::start_as(Version::Draft00));
-    0
+    begin(Version::Draft02, state, window::PLAIN)
+}
+
+#[no_mangle]
+pub extern "C" fn btpu_receiver_start_window(state: &mut [u8; 3144], window: u32) -> u32
+    ensures { λ r. ⌜ _≡_ {A = ℕ × List ℕ} (r, now (state .exit)) (Spec.started Draft02 (now (state .entry)) window) ⌝ }
+{
+    begin(Version::Draft02, state, window)
+}
+
+#[no_mangle]
+pub extern "C" fn btpu_receiver_start_00(state: &mut [u8; 3144], window: u32) -> u32
+    ensures { λ r. ⌜ _≡_ {A = ℕ × List ℕ} (r, now (state .exit)) (Spec.started Draft00 (now (state .entry)) window) ⌝ }
+{
+    begin(Version::Draft00, state, window)
 }
 
 // Whether an image is a sound state.

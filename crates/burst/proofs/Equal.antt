@@ -14,7 +14,7 @@ use Rattle.octets.specs.Octets.{sumOf}
 use Rattle.wire.specs.Frame.{Sized}
 use Rattle.wire.specs.declared.Version.{Version}
 use Rattle.wire.proofs.Spans.{sized}
-use Rattle.window.specs.Window.{Window, windowSize, sixteen}
+use Rattle.window.specs.Window.{Window}
 use Rattle.pieces.specs.Pieces.{bundleMax}
 use Rattle.rows.specs.Message.{Draft, Board, Handed, draft}
 use Rattle.messages.specs.Run.{going, begun}
@@ -48,7 +48,7 @@ module _ (D : Draft) (M : (xs : List ℕ) → Sized (length xs) (D .read xs)) (C
     first = setOut (going (b .state) (b .pool) (l .output) (l .lengths) (l .numbers) (begun place)) (l .places) (l .reasons) k
 
     ready : Ready w b
-    ready = record { sound = A .state; shaped = λ r r<. record { indexes64 = Z .indexes r r<; lengths64 = Z .lengths r r< }; rows = Z .rows; pool = A .pool }
+    ready = record { window = Z .window; sound = A .state; shaped = λ r r<. record { indexes64 = Z .indexes r r<; lengths64 = Z .lengths r r< }; rows = Z .rows; pool = A .pool }
 
     few : 0 + octetsIn fs < 4194304
     few =
@@ -136,7 +136,7 @@ module _ (D : Draft) (M : (xs : List ℕ) → Sized (length xs) (D .read xs)) (C
     pub calls : Anyhow D w k (drop k (framesOf sizes octets)) b place handed notes after (length sizes) 0
 
   reshaped : {b : Board} → Ready w b → Shaped D w b
-  reshaped R = record { rows = R .rows; indexes = λ r r<. R .shaped r r< .indexes64; lengths = λ r r<. R .shaped r r< .lengths64 }
+  reshaped R = record { window = R .window; rows = R .rows; indexes = λ r r<. R .shaped r r< .indexes64; lengths = λ r r<. R .shaped r r< .lengths64 }
 
   none-left : (sizes octets : List ℕ) (b : Board) → AllOf sizes octets b (length sizes) 0 [] b
   none-left sizes octets b = record { handed = []; notes = []; gave = gave-none; calls = λ c u. rw (none-behind (length sizes) sizes octets refl) over }
@@ -161,9 +161,9 @@ module _ (D : Draft) (M : (xs : List ℕ) → Sized (length xs) (D .read xs)) (C
   pub all-singles : AllSingles D w
   all-singles sizes octets b after gs Z T s = let R = all-of T Z s in (R .handed, R .notes, R .gave, R .calls 0 0)
 
--- for a receiver of either draft
-pub burst-equals-draft : (v : Version) → BurstEquals (draft v) windowSize
-burst-equals-draft v = burst-equals (draft v) (sized v) (priced-read v) windowSize sixteen
+-- for a receiver of either draft and any window
+pub burst-equals-draft : (v : Version) (w : ℕ) → Window w → BurstEquals (draft v) w
+burst-equals-draft v = burst-equals (draft v) (sized v) (priced-read v)
 
-pub all-singles-draft : (v : Version) → AllSingles (draft v) windowSize
-all-singles-draft v = all-singles (draft v) (sized v) (priced-read v) windowSize sixteen
+pub all-singles-draft : (v : Version) (w : ℕ) → Window w → AllSingles (draft v) w
+all-singles-draft v = all-singles (draft v) (sized v) (priced-read v)

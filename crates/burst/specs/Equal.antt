@@ -6,6 +6,7 @@ use lib.ListN.{length, drop, getD}
 use Rattle.octets.specs.Octets.{put}
 use Rattle.row.specs.declared.Phase.the-variants.{Free}
 use Rattle.row.specs.Row.{emptyRow}
+use Rattle.rows.specs.State.{windowOf, rowMax}
 use Rattle.rows.specs.Message.{Draft, Board, Handed}
 use Rattle.rows.specs.Messages.{joinedOctets}
 use Rattle.messages.specs.Run.{originNumber}
@@ -51,11 +52,12 @@ pub data Gave : List Given → List Handed → List Note → Type 0 where
       → Gave (g ∷ gs) (hs ++ hs′) (ns ++ ns′)
 
 module _ (D : Draft) (w : ℕ) where
-  -- a board as the program's types have it
+  -- a board of the window, as the program's types have it
   pub record Shaped (b : Board) : Type 0 where
-    pub rows : length (b .state .rows) ≡ w
-    pub indexes : (r : ℕ) → r < w → length (getD (b .state .rows) r (emptyRow Free) .indexes) ≡ 64
-    pub lengths : (r : ℕ) → r < w → length (getD (b .state .rows) r (emptyRow Free) .lengths) ≡ 64
+    pub window : windowOf (b .state) ≡ w
+    pub rows : length (b .state .rows) ≡ rowMax
+    pub indexes : (r : ℕ) → r < rowMax → length (getD (b .state .rows) r (emptyRow Free) .indexes) ≡ 64
+    pub lengths : (r : ℕ) → r < rowMax → length (getD (b .state .rows) r (emptyRow Free) .lengths) ≡ 64
 
   -- A burst that is not refused is single calls, from its start to where it says that the next call goes on, with the notes of exactly the frames
   -- refused; it stops before a message or a refused frame exactly where there is no room.

@@ -1,7 +1,6 @@
 // The burst call: up to 64 frames in one call (document 02, E3).
 use messages::Limits;
 use pieces::BUNDLE_MAX;
-use receiver::POOL;
 use rows::State;
 use wire::Version;
 ghost use mathlib.Core.Path.{_≡_};
@@ -116,7 +115,8 @@ fn admit(
     ensures { λ r. ⌜ r ≡ Steps.admission (Spec.refusal (draftOf state) (windowOf state) (record { state = state; pool = now (pool .entry) }) (now (sizes .entry)) (now (joined .entry)) frame place (now (output .entry))) ⌝ }
 {
     if rows::is_sound(state) {
-        if (pool.len() != POOL) | (output.len() < BUNDLE_MAX) {
+        let size = receiver::pool_size(state.settings.window);
+        if (pool.len() != size) | (output.len() < BUNDLE_MAX) {
             return Admission::Denied(Refusal::BufferSize);
         }
         return admit_frames(rows::version_of(state), sizes, joined, frame, place);

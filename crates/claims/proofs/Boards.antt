@@ -17,6 +17,7 @@ use Rattle.wire.specs.Message.{Message}
 use Rattle.window.specs.declared.Standing.{Standing}
 use Rattle.window.specs.declared.Standing.the-variants.{Inside, New, Outside}
 use Rattle.window.specs.Window.{Window, standingOf, rowOf, enters}
+use Rattle.window.proofs.Sizes.{window-range}
 use Rattle.window.proofs.Entering.{row-below, all-enter}
 use Rattle.pieces.specs.declared.Order.{Order}
 use Rattle.row.specs.declared.Row.{Row}
@@ -26,7 +27,7 @@ use Rattle.pieces.specs.Pieces.{bundleMax}
 use Rattle.row.specs.Row.{emptyRow}
 use Rattle.reassembly.specs.Rules.{pieceStep, cancelStep}
 use Rattle.rows.specs.declared.Origin.the-variants.{Transfer}
-use Rattle.rows.specs.State.{fresh}
+use Rattle.rows.specs.State.{rowMax, fresh}
 use Rattle.rows.specs.Message.{Board, Handed, Outcome, cellAt, handedOf, moved, inRow, treatTransfer, transfer, step}
 use Rattle.rows.proofs.Rows.{length-freed, getD-freed}
 use Rattle.messages.proofs.Cells.{length-cell, length-put-cell}
@@ -58,7 +59,7 @@ module _ (order : Order) (w : ℕ) (win : Window w) (T : Transfers) where
     absent : a .bound ≡ 0 → b .state .present ≡ false
     greatest : (g : ℕ) → a .bound ≡ suc g → (b .state .present ≡ true) × (b .state .greatest ≡ numberAt T g)
     bounded : a .bound ≤ T .count
-    rows : length (b .state .rows) ≡ w
+    rows : w ≤ length (b .state .rows)
     pool : length (b .pool) ≡ w * bundleMax
     new : (k : ℕ) → a .bound ≤ k → a .tracks k ≡ live []
     within : (k : ℕ) → k < a .bound → a .bound ≤ k + w → Stands b k (a .tracks k)
@@ -111,7 +112,7 @@ module _ (order : Order) (w : ℕ) (win : Window w) (T : Transfers) where
       absent = s .absent;
       greatest = s .greatest;
       bounded = s .bounded;
-      rows = length-set (b .state .rows) (slot k) (o .row) ∙ s .rows;
+      rows = rw (length-set (b .state .rows) (slot k) (o .row)) (s .rows);
       pool = length-put-cell w (b .pool) (s .pool) (slot k) (slot< k) (o .cell) (did .sized);
       new = change-elim (λ j t. a .bound ≤ j → t ≡ live []) (a .tracks) k t (λ h. absurd (omega arith)) (λ j ne h. s .new j h);
       within = row-within;
@@ -131,7 +132,7 @@ module _ (order : Order) (w : ℕ) (win : Window w) (T : Transfers) where
       absent = λ e. absurd (omega arith);
       greatest = λ g e. (refl, ap (numberAt T) (omega arith));
       bounded = k<;
-      rows = length-freed w 0 (b .state .greatest) d (b .state .rows) ∙ s .rows;
+      rows = rw (length-freed w 0 (b .state .greatest) d (b .state .rows)) (s .rows);
       pool = s .pool;
       new = λ j h. s .new j (omega arith);
       within = λ j h near. stands j h near (bool (ltb j (a .bound)));
@@ -148,7 +149,7 @@ module _ (order : Order) (w : ℕ) (win : Window w) (T : Transfers) where
     enters-window = go (a .bound) refl
       where
         go : (m : ℕ) → a .bound ≡ m → (d : ℕ) × (standingOf w (b .state .present) (b .state .greatest) (numberAt T k) ≡ New d) × Tied (moved w b (numberAt T k) d) (record { bound = suc k; tracks = a .tracks })
-        go zero e = (w, rw (s .absent e), moves w (λ j x y z. all-enter w win (b .state .greatest) w (slot j) (omega arith)) (λ j x y. absurd (omega arith)))
+        go zero e = (w, rw (s .absent e), moves w (λ j x y z. all-enter w win (b .state .greatest) w (slot j) (slot< j) (omega arith)) (λ j x y. absurd (omega arith)))
         go (suc g) e =
             let at = s .greatest g e .1 in (
               k - g,
@@ -238,7 +239,7 @@ module _ (order : Order) (w : ℕ) (win : Window w) (T : Transfers) where
     absent = λ e. rw (f .started);
     greatest = λ g e. absurd (omega arith);
     bounded = omega arith;
-    rows = rw (f .started) (length-replicate w (emptyRow Free));
+    rows = rw (f .started, length-replicate rowMax (emptyRow Free)) (window-range w win .1);
     pool = f .pooled;
     new = λ k h. refl;
     within = λ k h n. absurd (omega arith);

@@ -4,7 +4,7 @@ use mathlib.Core.Bool.{Bool, true, false, cond, false≢true}
 use mathlib.Core.Logic.{_⊎_, inl, inr}
 use mathlib.Core.Option.{Option, none, some}
 use mathlib.Core.List.{List, [], _∷_, _++_, append-assoc, append-nil}
-use Prim.Native.Nat.{ℕ, _+_, _-_, _*_, _/_, _%_, _^_, _<_}
+use Prim.Native.Nat.{ℕ, _+_, _-_, _*_, _/_, _%_, _^_, _<_, _≤_}
 use native.Mathlib.Nat.{zero-add}
 use native.Mathlib.Omega.{arith}
 use lib.ListN.{length, getD, length-set, length-replicate}
@@ -15,6 +15,7 @@ use Rattle.wire.specs.Message.{Message, skipped, bundle, cancel}
 use Rattle.writing.specs.Written.{piece}
 use Rattle.window.specs.declared.Standing.the-variants.{Inside, New}
 use Rattle.window.specs.Window.{Window, distance, standing, standingOf, rowOf, enters}
+use Rattle.window.proofs.Sizes.{window-range}
 use Rattle.window.proofs.Entering.{row-below, all-enter, own-enters, next-enters}
 use Rattle.pieces.specs.declared.Order.{Order}
 use Rattle.row.specs.declared.Row.{Row}
@@ -25,7 +26,7 @@ use Rattle.pieces.specs.Pieces.{bundleMax}
 use Rattle.row.specs.Row.{emptyRow}
 use Rattle.reassembly.specs.Rules.{pieceStep, cancelStep}
 use Rattle.rows.specs.declared.Origin.the-variants.{Transfer}
-use Rattle.rows.specs.State.{fresh}
+use Rattle.rows.specs.State.{rowMax, fresh}
 use Rattle.rows.specs.Message.{Board, Handed, Outcome, cellAt, handedOf, moved, inRow, treatTransfer, transfer, step}
 use Rattle.rows.proofs.Rows.{length-freed, getD-freed}
 use Rattle.messages.proofs.Cells.{length-cell, length-put-cell}
@@ -75,7 +76,7 @@ module _ {S : Type 0} (In : S → Row → List ℕ → Type 0) (order : Order) (
   record Tied (b : Board) (k : ℕ) (σ : Begun S) : Type 0 where
     small : k < 2 ^ 32
     greatest : b .state .present ≡ true → (b .state .greatest < 2 ^ 32) × ((b .state .greatest + 1) % 2 ^ 32 ≡ k)
-    rows : length (b .state .rows) ≡ w
+    rows : w ≤ length (b .state .rows)
     pool : length (b .pool) ≡ w * bundleMax
     going : (t : ℕ) (ps : S) → σ t ≡ some ps → Going b k t ps
 
@@ -94,7 +95,7 @@ module _ {S : Type 0} (In : S → Row → List ℕ → Type 0) (order : Order) (
         record {
           small = s .small;
           greatest = s .greatest;
-          rows = length-set (b .state .rows) (rowOf w t) (o .row) ∙ s .rows;
+          rows = rw (length-set (b .state .rows) (rowOf w t) (o .row)) (s .rows);
           pool = length-put-cell w (b .pool) (s .pool) (rowOf w t) r< (o .cell) sized;
           going = update-elim (λ u v. (ps : S) → v ≡ some ps → Going (inRow w rule b t .board) k u ps) σ t v
               (λ ps e. record {
@@ -161,7 +162,7 @@ module _ {S : Type 0} (In : S → Row → List ℕ → Type 0) (order : Order) (
           tied = record {
             small = omega arith;
             greatest = λ _. (s .small, refl);
-            rows = length-freed w 0 (b .state .greatest) d (b .state .rows) ∙ s .rows;
+            rows = rw (length-freed w 0 (b .state .greatest) d (b .state .rows)) (s .rows);
             pool = s .pool;
             going = λ t ps q. record { present = refl; behind = others-behind t ps q; row = rw (freed d t, others t ps q) (s .going t ps q .row) };
           };
@@ -179,7 +180,7 @@ module _ {S : Type 0} (In : S → Row → List ℕ → Type 0) (order : Order) (
             moves 1 (rw (e, one, le-leb 1 (2147483647 + w / 2) (omega arith))) (rw one at (own-enters w win (b .state .greatest) k (g .0) (s .small) (omega arith)))
             (λ t ps q. next-enters w win (b .state .greatest) k (g .0) (s .small) one (rowOf w t) (row-below w win t)
             (rows-apart w win k′ k t (omega arith) own-behind (others-behind t ps q) (not-next w k t (s .going t ps q .behind))))
-        go false e = moves w (rw e) (all-enter w win (b .state .greatest) w (rowOf w k) (omega arith)) (λ t ps q. absurd (false≢true (sym e ∙ s .going t ps q .present)))
+        go false e = moves w (rw e) (all-enter w win (b .state .greatest) w (rowOf w k) (row-below w win k) (omega arith)) (λ t ps q. absurd (false≢true (sym e ∙ s .going t ps q .present)))
 
   -- ---- the messages of a row
 
@@ -252,7 +253,7 @@ module _ {S : Type 0} (In : S → Row → List ℕ → Type 0) (order : Order) (
           tied = record {
             small = h;
             greatest = λ e. absurd (false≢true (ap (λ s. s .present) (sym (F .started)) ∙ e));
-            rows = rw (F .started) (length-replicate w (emptyRow Free));
+            rows = rw (F .started, length-replicate rowMax (emptyRow Free)) (window-range w win .1);
             pool = F .pooled;
             going = λ t ps e. none-some e;
           };

@@ -10,7 +10,7 @@ use Rattle.octets.proofs.Flags.{cond-elim}
 use Rattle.wire.specs.Layout.{read}
 use Rattle.wire.specs.Frame.{messages}
 use Rattle.wire.proofs.Spans.{sized}
-use Rattle.window.specs.Window.{Window, sixteen, windowSize}
+use Rattle.window.specs.Window.{Window}
 use Rattle.framing.specs.declared.State.{State}
 use Rattle.framing.specs.Answers.{Outcome}
 use Rattle.framing.specs.Placing.{closed}
@@ -56,24 +56,20 @@ module _ (v : Version) (w : ℕ) (win : Window w) where
     sent : Sent v w (F .first) fs bs
     sent = sends v w (F .size) (F .first) (F .numbered) (F .used) (F .empty)
 
-    arrives : (es : List Entry) → Calls (receive w) b es → framesOf es ≡ fs → handedOf es ≡ map answered bs
+    arrives : (es : List Entry) → Calls receive b es → framesOf es ≡ fs → handedOf es ≡ map answered bs
     arrives es c e =
         ap handedOf (determined (draft v) w (sized v) (calls-as v w fresh c) (λ x m. sent .formed (x .frame) (rw e at (Memᴰ·map (λ (x : Entry). x .frame) m))))
         ∙ rw e (entries-hand b fs) ∙ ap (map answered) (carried In (orderOf v) w win b fresh (F .numbered) (sent .carry))
 
-    exists : (es : List Entry) × Calls (receive w) b es × (framesOf es ≡ fs)
+    exists : (es : List Entry) × Calls receive b es × (framesOf es ≡ fs)
     exists = (entriesOf (draft v) w b fs, receives v w win b fresh fs (sent .formed), entries-frames b fs)
 
-  -- for each window size that the laws are stated over
-  pub end-to-end : Demand2 v w
-  end-to-end = record { arrives = arrives; exists = exists }
+  -- for each draft and window
+  pub demand2 : Demand2 v w
+  demand2 = record { arrives = arrives; exists = exists }
 
 -- Every use whose last call is a flush that is not refused, with nothing begun, is such a use.
 pub flushed-last : {v : Version} {p n : ℕ} {s : State} {d b : List ℕ} {fs : List (List ℕ)} {bs : List Handed} → n < 2 ^ 32 → Used v p n s d b fs bs → s .begun ≡ false
     → isRefusal (flush s d .answer) ≡ false → Flushed v (fs ++ taken (flush s d)) bs
 flushed-last {s = s} {d} {b} n< u e r =
     record { size = _; first = _; numbered = n<; state = flush s d .state; frame = flush s d .frame; lent = b; used = flushing u; empty = flush-leaves s d r .0; idle = flush-leaves s d r .1 ∙ e }
-
--- the receiver of document 01, of either draft
-pub demand2 : (v : Version) → Demand2 v windowSize
-demand2 v = end-to-end v 16 sixteen

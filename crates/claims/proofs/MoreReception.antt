@@ -6,7 +6,7 @@ use native.Mathlib.Omega.{arith}
 use Rattle.wire.specs.Message.{Message}
 use Rattle.wire.specs.Frame.{messages}
 use Rattle.wire.proofs.Spans.{sized}
-use Rattle.window.specs.Window.{Window, windowSize, sixteen}
+use Rattle.window.specs.Window.{Window}
 use Rattle.rows.specs.declared.Origin.the-variants.{Transfer}
 use Rattle.wire.specs.declared.Version.{Version}
 use Rattle.rows.specs.Message.{Draft, draft, Board}
@@ -123,9 +123,6 @@ module _ {v : Version} (R : Record v) where
         kept-from G G (begin-ahead (D .order) T (InRecord R) w₁ w₂) f (reception-runs w₁ win₁ P₁) (reception-runs w₂ win₂ P₂) (P₁ .drawn) (P₂ .drawn)
         (all-near (D .order) T (InRecord R) w₁ w₂ (window-size w₂ win₂ .0) begin (messagesOf D y) (λ j h. omega arith) n)
 
+  -- for each draft and every pair of windows
   pub demand3 : (w₁ w₂ : ℕ) → Window w₁ → Window w₂ → Demand3 R w₁ w₂
   demand3 w₁ w₂ win₁ win₂ = record { onlyBundles = only w₁ win₁; noneTwice = λ x P. outcome w₁ win₁ x P .1 .once; moreNeverCosts = kept w₁ w₂ win₁ win₂ }
-
--- the receiver of document 01, of either draft
-pub more-reception : {v : Version} (R : Record v) → Demand3 R windowSize windowSize
-more-reception R = demand3 R 16 16 sixteen sixteen

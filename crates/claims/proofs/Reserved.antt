@@ -7,9 +7,8 @@ use native.Mathlib.Omega.{arith}
 use Rattle.wire.specs.declared.Version.the-variants.{Draft02}
 use Rattle.wire.specs.Layout as Wire
 use Rattle.wire.specs.Reserved.{SameButReserved, same, padded, headed}
-use Rattle.window.specs.Window.{windowSize}
 use Rattle.rows.specs.declared.Settings.{Settings}
-use Rattle.rows.specs.State.{fresh}
+use Rattle.rows.specs.State.{windowOf, fresh}
 use Rattle.rows.specs.Message.{draftOf}
 use Rattle.receiver.specs.Receive.{receive}
 use Rattle.receiver.proofs.Keeping.{receive-keeps}
@@ -19,13 +18,13 @@ use Rattle.claims.specs.Marked as Cases
 use Rattle.claims.specs.Marked.{Marked, bundleOf, finished, refused, output, freshBoard, marked}
 use Rattle.claims.specs.Reserved.{Call, replies, none, more, ReservedIgnored}
 
-pub reserved-ignored : (w : ℕ) → ReservedIgnored w
+pub reserved-ignored : ReservedIgnored
 unfolding replies
-reserved-ignored w b z _ _ none = refl
-reserved-ignored w b z _ _ (more {f} {g} {cs} {ds} place output r rs) =
-    let e = Receiver.reserved-ignored w b z r place output in
-    let set = ap (λ (s : Settings). s .version) (receive-keeps w (draftOf (b .state)) b f place output) ∙ z in
-    rw (← e) (ap (λ l. receive w b f place output ∷ l) (reserved-ignored w (receive w b f place output .board) set cs ds rs))
+reserved-ignored b z _ _ none = refl
+reserved-ignored b z _ _ (more {f} {g} {cs} {ds} place output r rs) =
+    let e = Receiver.reserved-ignored b z r place output in
+    let set = ap (λ (s : Settings). s .version) (receive-keeps (windowOf (b .state)) (draftOf (b .state)) b f place output) ∙ z in
+    rw (← e) (ap (λ l. receive b f place output ∷ l) (reserved-ignored (receive b f place output .board) set cs ds rs))
 
 -- ---- an example: padding, a bundle, an end with a hint and a type that is passed over, without and with reserved bits; and H set alone
 
@@ -46,7 +45,7 @@ calls f = call 0 ∷ call 6 ∷ call 22 ∷ []
     call place = record { frame = f; place = place; output = output }
 
 unfoldable pub answers : List ℕ → List Marked
-answers f = map marked (replies windowSize (freshBoard Draft02) (calls f))
+answers f = map marked (replies (freshBoard Draft02) (calls f))
 
 -- With reserved bits set both bundles come out. With H set the bundle's content is walked as a hint, and the frame is refused.
 pub computed : (answers set ≡ bundleOf (65 ∷ []) 6 Option.none ∷ bundleOf (66 ∷ []) 22 (Option.some 5) ∷ finished ∷ [])
@@ -56,7 +55,7 @@ computed = (refl, refl)
 
 same-answers : {f g : List ℕ} → SameButReserved f g → answers f ≡ answers g
 unfolding answers freshBoard fresh
-same-answers r = ap (map marked) (reserved-ignored windowSize (freshBoard Draft02) refl _ _ (more 0 output r (more 6 output r (more 22 output r none))))
+same-answers r = ap (map marked) (reserved-ignored (freshBoard Draft02) refl _ _ (more 0 output r (more 6 output r (more 22 output r none))))
 
 pub set-bits : SameButReserved plain set
 unfolding Wire.lengthField

@@ -15,8 +15,8 @@ use Rattle.pieces.specs.Pieces.{bundleMax}
 use Rattle.rows.specs.declared.Origin.{Origin}
 use Rattle.receiver.specs.declared.Refusal.{Refusal}
 use Rattle.receiver.specs.declared.Answer.the-variants.{Delivered, Finished, Refused}
-use Rattle.rows.specs.State.{fresh}
-use Rattle.rows.specs.declared.Settings.{Settings}
+use Rattle.rows.specs.State.{windowOf, fresh}
+use Rattle.rows.proofs.Keeping.{settingsOf}
 use Rattle.rows.specs.Message.{Draft, draft, draftOf, Board, messagesFrom}
 use Rattle.receiver.specs.Receive.{Reply, treat, receiveAs, receive}
 use Rattle.receiver.proofs.Ready.{Ready, treat-ready, fresh-ready}
@@ -202,30 +202,30 @@ module _ (c₁ c₂ : Board → List ℕ → ℕ → List ℕ → Reply) (P : Bo
       let q = same b p other place output in
       between other place output r (rw q at a) (rw q at (calls-alike (keeps b p other place output) c))
 
--- ---- a board that is set to a draft: its calls are that draft's
+-- ---- a board that is set to a draft and a window: its calls are theirs
 
 module _ (v : Version) (w : ℕ) where
   abbrev Set : Board → Type 0
-  Set b = b .state .settings .version ≡ v
+  Set b = settingsOf b ≡ record { version = v; window = w }
 
-  set-kept : (D : Draft) (b : Board) → Set b → (frame : List ℕ) (place : ℕ) (output : List ℕ) → Set (receiveAs D w b frame place output .board)
-  set-kept D b e frame place output = ap (λ (s : Settings). s .version) (receive-keeps w D b frame place output) ∙ e
+  set-kept : (D : Draft) (n : ℕ) (b : Board) → Set b → (frame : List ℕ) (place : ℕ) (output : List ℕ) → Set (receiveAs D n b frame place output .board)
+  set-kept D n b e frame place output = receive-keeps n D b frame place output ∙ e
 
   fresh-set : {b : Board} → Fresh v w b → Set b
   unfolding fresh
   fresh-set F = rw (F .started)
 
-  pub calls-as : {b : Board} {es : List Entry} → Fresh v w b → Calls (receive w) b es → Calls (receiveAs (draft v) w) b es
+  pub calls-as : {b : Board} {es : List Entry} → Fresh v w b → Calls receive b es → Calls (receiveAs (draft v) w) b es
   calls-as F =
-      calls-alike (receive w) (receiveAs (draft v) w) Set (λ b e frame place output. receive-as w v b frame place output e)
-      (λ b e. set-kept (draftOf (b .state)) b e) (fresh-set F)
+      calls-alike receive (receiveAs (draft v) w) Set (λ b e frame place output. receive-as v w b frame place output e)
+      (λ b e. set-kept (draftOf (b .state)) (windowOf (b .state)) b e) (fresh-set F)
 
-  pub calls-own : {b : Board} {es : List Entry} → Fresh v w b → Calls (receiveAs (draft v) w) b es → Calls (receive w) b es
+  pub calls-own : {b : Board} {es : List Entry} → Fresh v w b → Calls (receiveAs (draft v) w) b es → Calls receive b es
   calls-own F =
-      calls-alike (receiveAs (draft v) w) (receive w) Set (λ b e frame place output. sym (receive-as w v b frame place output e)) (set-kept (draft v)) (fresh-set F)
+      calls-alike (receiveAs (draft v) w) receive Set (λ b e frame place output. sym (receive-as v w b frame place output e)) (set-kept (draft v) w) (fresh-set F)
 
   pub receives : Window w → (b : Board) → Fresh v w b → (fs : List (List ℕ)) → ((f : List ℕ) → List·Memᴰ f fs → WellFormed (draft v) f)
-      → Calls (receive w) b (entriesOf (draft v) w b fs)
+      → Calls receive b (entriesOf (draft v) w b fs)
   receives win b F fs wf =
       calls-own F (ready-receives (draft v) w (sized v) win b (rw (← F .started) at (fresh-ready w win v (b .pool) (F .pooled))) fs wf)
 

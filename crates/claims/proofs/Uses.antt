@@ -14,7 +14,7 @@ use Rattle.sender.specs.Answers.{unless, isRefusal}
 use Rattle.sender.specs.Sound as Sound
 use Rattle.sender.specs.Calls as Sender
 use Rattle.rows.specs.declared.Origin.the-variants.{Whole, Transfer}
-use Rattle.window.specs.Window.{windowSize}
+use Rattle.window.specs.Window.{Window}
 use Rattle.rows.specs.Message.{Board, Handed}
 use Rattle.receiver.specs.Receive.{receive}
 use Rattle.claims.specs.Calls.{Fresh, Entry, handedOf, Calls}
@@ -58,10 +58,10 @@ used =
     }
 
 -- any fresh board that takes these frames hands out both bundles, and the cancelled one not
-pub both-arrive : (b : Board) → Fresh Draft02 windowSize b → (es : List Entry) → Calls (receive windowSize) b es → map (λ (e : Entry). e .frame) es ≡ frames
+pub both-arrive : (w : ℕ) → Window w → (b : Board) → Fresh Draft02 w b → (es : List Entry) → Calls receive b es → map (λ (e : Entry). e .frame) es ≡ frames
     → handedOf es ≡ delivery (Transfer 0) long ∷ delivery Whole short ∷ []
 unfolding bundles
-both-arrive = demand2 Draft02 .arrives frames bundles used
+both-arrive w win = demand2 Draft02 w win .arrives frames bundles used
 
 -- ---- draft 00: the start comes first, with the highest index, and the last piece has index 0
 
@@ -88,7 +88,7 @@ used00 =
       idle = refl;
     }
 
-pub both-arrive00 : (b : Board) → Fresh Draft00 windowSize b → (es : List Entry) → Calls (receive windowSize) b es → map (λ (e : Entry). e .frame) es ≡ frames00
+pub both-arrive00 : (w : ℕ) → Window w → (b : Board) → Fresh Draft00 w b → (es : List Entry) → Calls receive b es → map (λ (e : Entry). e .frame) es ≡ frames00
     → handedOf es ≡ delivery (Transfer 4294967295) long ∷ delivery Whole short ∷ []
 unfolding bundles00
-both-arrive00 = demand2 Draft00 .arrives frames00 bundles00 used00
+both-arrive00 w win = demand2 Draft00 w win .arrives frames00 bundles00 used00

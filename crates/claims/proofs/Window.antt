@@ -9,6 +9,7 @@ use borrow.Author.Tests.{eqb-true, eqb-false, eq-eqb, ne-eqb, le-ltb, lt-ltb, le
 use Rattle.octets.proofs.Flags.{bool, cond-elim}
 use Rattle.wire.specs.Message.{Message}
 use Rattle.window.specs.declared.Standing.the-variants.{Inside, New, Outside}
+use Rattle.window.proofs.Entering.{row-below}
 use Rattle.window.specs.Window.{Window, four, eight, sixteen, distance, standing, rowOf, ahead, enters}
 use Rattle.claims.specs.Record.{Transfers, numberAt, isLast, pieceAt}
 use Rattle.claims.proofs.Track.{comes, event}
@@ -62,11 +63,11 @@ row-apart _ sixteen x j k a b ne = omega arith
 module _ (w : ℕ) (win : Window w) (T : Transfers) where
   pub enters-new : (g k j : ℕ) → g < j → j ≤ k → k < j + w → enters w (numberAt T g) (k - g) (rowOf w (numberAt T j)) ≡ true
   unfolding enters numberAt
-  enters-new g k j a b c = lt-ltb (ahead w (numberAt T g) (rowOf w (numberAt T j))) (k - g) (rw (row-number w win (T .first + j), row-number w win (T .first + g)) (row-new w win (T .first) g k j a b c))
+  enters-new g k j a b c = rw (lt-ltb (rowOf w (numberAt T j)) w (row-below w win (numberAt T j))) (lt-ltb (ahead w (numberAt T g) (rowOf w (numberAt T j))) (k - g) (rw (row-number w win (T .first + j), row-number w win (T .first + g)) (row-new w win (T .first) g k j a b c)))
 
   pub enters-old : (g k j : ℕ) → j ≤ g → g ≤ k → k < j + w → enters w (numberAt T g) (k - g) (rowOf w (numberAt T j)) ≡ false
   unfolding enters numberAt
-  enters-old g k j a b c = le-ltb (ahead w (numberAt T g) (rowOf w (numberAt T j))) (k - g) (rw (row-number w win (T .first + j), row-number w win (T .first + g)) (row-old w win (T .first) g k j a b c))
+  enters-old g k j a b c = rw (lt-ltb (rowOf w (numberAt T j)) w (row-below w win (numberAt T j))) (le-ltb (ahead w (numberAt T g) (rowOf w (numberAt T j))) (k - g) (rw (row-number w win (T .first + j), row-number w win (T .first + g)) (row-old w win (T .first) g k j a b c)))
 
   pub other-row : (j k : ℕ) → j < k + w → k < j + w → (j ≡ k → ⊥) → rowOf w (numberAt T j) ≡ rowOf w (numberAt T k) → ⊥
   unfolding numberAt

@@ -36,4 +36,4 @@ pub record Arrival (Sends : List (List ℕ) → List Handed → Type 0) (B : Typ
 
 -- "in it and in demand 2 sender, record and boards are of one draft" (document 02, E5)
 abbrev pub Demand2 : Version → ℕ → Type 0
-Demand2 v w = Arrival (Flushed v) Board (Fresh v w) (Calls (receive w))
+Demand2 v w = Arrival (Flushed v) Board (Fresh v w) (Calls receive)

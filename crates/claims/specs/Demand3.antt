@@ -94,7 +94,7 @@ module _ {v : Version} (R : Record v) where
   pub record Reception (w : ℕ) (es : List Entry) : Type 0 where
     pub board : Board
     pub fresh : Fresh v w board
-    pub calls : Calls (receive w) board es
+    pub calls : Calls receive board es
     pub drawn : (e : Entry) → List·Memᴰ e es → List·Memᴰ (e .frame) (R .frames)
 
   -- The claim about the lists of two boards: P and Q say which lists those are, n how far behind a message may come on the second.
@@ -107,6 +107,6 @@ module _ {v : Version} (R : Record v) where
     -- than n behind one already come.
     pub moreNeverCosts : (x y : List Entry) → P x → Q y → (f : With (NoCancel D) x y) → NoneBehind n (places (T .first) (messagesOf D y)) → Kept [] [] f
 
-  -- Boards of windows w₁ and w₂, and the second window less one; in document 01 both are 16.
+  -- "'15 behind' in demand 3 reads 'window less one', by the second board's window" (document 02, E6)
   abbrev pub Demand3 : ℕ → ℕ → Type 0
   Demand3 w₁ w₂ = Claim (Reception w₁) (Reception w₂) (w₂ - 1)

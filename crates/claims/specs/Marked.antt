@@ -1,10 +1,10 @@
--- The marked cases of document 01, M1 to M13: fresh state, place 0. M7 is as request E2 of document 02 corrects it.
+-- The marked cases of document 01, M1 to M13: fresh state as a plain start leaves it, place 0. M7 is as request E2 of document 02 corrects it.
 use mathlib.Core.List.{List, [], _∷_}
 use mathlib.Core.Option.{Option, none, some}
 use Prim.Native.Nat.{ℕ}
 use lib.ListN.{take, length, replicate}
 use Rattle.wire.specs.declared.Version.{Version}
-use Rattle.window.specs.Window.{windowSize}
+use Rattle.window.specs.Window.{plainWindow}
 use Rattle.rows.specs.declared.Origin.{Origin}
 use Rattle.rows.specs.declared.Origin.the-variants.{Whole, Transfer}
 use Rattle.receiver.specs.declared.Answer.{Answer}
@@ -37,10 +37,10 @@ unfoldable pub output : List ℕ
 output = replicate 4096 0
 
 unfoldable pub freshBoard : Version → Board
-freshBoard v = record { state = fresh v windowSize; pool = replicate 65536 0 }
+freshBoard v = record { state = fresh v plainWindow; pool = replicate 32768 0 }
 
 unfoldable pub takenFrom : Board → List ℕ → Reply
-takenFrom b frame = receive windowSize b frame 0 output
+takenFrom b frame = receive b frame 0 output
 
 -- the number of a case, its frame, and what a fresh board answers
 pub record Case : Type 0 where

@@ -1,5 +1,5 @@
 -- Request E2 of document 02: "setting any reserved bits in the headers of a frame's messages changes no answer and no state", for whole
--- lists of receiving calls of a board of draft 02, over the window size w. Draft 00 has no flags.
+-- lists of receiving calls of a board of draft 02. Draft 00 has no flags.
 use mathlib.Core.Path.{_≡_}
 use mathlib.Core.List.{List, [], _∷_}
 use Prim.Native.Nat.{ℕ}
@@ -15,9 +15,9 @@ pub record Call : Type 0 where
   pub output : List ℕ
 
 -- The replies to a list of calls, each with its answer, state, pool and output; state and pool go on as the call before left them.
-unfoldable pub replies : ℕ → Board → List Call → List Reply
-replies w b [] = []
-replies w b (c ∷ cs) = let r : Reply = receive w b (c .frame) (c .place) (c .output) in r ∷ replies w (r .board) cs
+unfoldable pub replies : Board → List Call → List Reply
+replies b [] = []
+replies b (c ∷ cs) = let r : Reply = receive b (c .frame) (c .place) (c .output) in r ∷ replies (r .board) cs
 
 -- the same calls, with frames that differ in reserved bits alone
 pub data SameCalls : List Call → List Call → Type 0 where
@@ -26,5 +26,5 @@ pub data SameCalls : List Call → List Call → Type 0 where
       → SameCalls (record { frame = f; place = place; output = output } ∷ cs) (record { frame = g; place = place; output = output } ∷ ds)
 
 -- the claim
-abbrev pub ReservedIgnored : ℕ → Type 0
-ReservedIgnored w = (b : Board) → b .state .settings .version ≡ Draft02 → (cs ds : List Call) → SameCalls cs ds → replies w b cs ≡ replies w b ds
+abbrev pub ReservedIgnored : Type 0
+ReservedIgnored = (b : Board) → b .state .settings .version ≡ Draft02 → (cs ds : List Call) → SameCalls cs ds → replies b cs ≡ replies b ds

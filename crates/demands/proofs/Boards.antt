@@ -6,7 +6,7 @@ use native.Mathlib.Omega.{arith}
 use lib.ListN.{getD, set, take}
 use Rattle.octets.specs.Octets.{Octets}
 use Rattle.wire.proofs.Bounds.{read-low}
-use Rattle.window.specs.Window.{windowSize}
+use Rattle.rows.specs.State.{windowOf}
 use Rattle.rows.specs.declared.Origin.{Origin}
 use Rattle.rows.specs.declared.State.{State}
 use Rattle.rows.specs.Message as Rows
@@ -38,7 +38,7 @@ first-zero (x ∷ xs) = refl
 
 module _ (s : State) (b : Board) (O : On s b) (frame : List ℕ) (place : ℕ) (output result : List ℕ) where
   abbrev r : Reply
-  r = receive windowSize (with s (b .pool)) frame place output
+  r = receive (with s (b .pool)) frame place output
 
   abbrev e : Exported
   e = call b frame place output result
@@ -100,7 +100,7 @@ module _ (s : State) (b : Board) (O : On s b) (frame : List ℕ) (place : ℕ) (
   unfolding report
   reads-bundle low n next o a =
       let l : e .result ≡ 1 ∷ n ∷ next ∷ originNumber o ∷ [] = result-of ∙ ap (λ (a : Answer). report a result) a in
-      let back = origin-back o (rw a at (receive-hands windowSize (draftOf s) (read-low (s .settings .version)) (with s (b .pool)) frame place output low)) in
+      let back = origin-back o (rw a at (receive-hands (windowOf s) (draftOf s) (read-low (s .settings .version)) (with s (b .pool)) frame place output low)) in
       (rw (l, output-of, back), rw l, rw l, status-of ∙ ap status a)
 
   finished-entry : r .answer ≡ Finished → entry e 0 ≡ 0
@@ -110,7 +110,7 @@ module _ (s : State) (b : Board) (O : On s b) (frame : List ℕ) (place : ℕ) (
   -- a refused call leaves the board
   refused-left : (q : Refusal) → r .answer ≡ Refused q → On s (left e) × (e .pool ≡ b .pool)
   refused-left q a =
-      let k = refused-keeps (draftOf s) windowSize (with s (b .pool)) frame place output q a in
+      let k = refused-keeps (draftOf s) (windowOf s) (with s (b .pool)) frame place output q a in
       (record { image = image-of ∙ ap (λ (x : Rows.Board). imageOf (x .state)) k; good = O .good }, pool-of ∙ ap (λ (x : Rows.Board). x .pool) k)
 
 -- ---- a frame taken to its end
@@ -123,49 +123,65 @@ record Came (T : State → Type 0) (after : Board) : Type 0 where
 
 module _ (frame : List ℕ) (low : Octets frame) where
   abbrev OnStates : State → List ℕ → ℕ → List Delivery → Board → State → Type 0
-  OnStates s pool place hs after t = States.Takes (receive windowSize) frame (with s pool) place hs (with t (after .pool))
+  OnStates s pool place hs after t = States.Takes receive frame (with s pool) place hs (with t (after .pool))
 
   on-bundle : {hs : List Delivery} {after : Board} (s : State) (pool : List ℕ) (place : ℕ) (output : List ℕ) (n next : ℕ) (o : Origin) (pool′ : List ℕ) (next′ : ℕ)
-      → let r : Reply = receive windowSize (with s pool) frame place output in
+      → let r : Reply = receive (with s pool) frame place output in
       r .answer ≡ Delivered n next o → pool′ ≡ r .board .pool → next′ ≡ next → Came (OnStates (r .board .state) pool′ next′ hs after) after
       → Came (OnStates s pool place (record { origin = o; size = n; octets = take n (r .output) } ∷ hs) after) after
   on-bundle s pool place output n next o pool′ next′ a ep en c = record { state = c .state; on = c .on; is = States.delivered output n next o a (rw (ep, en) at (c .is)) }
 
   on-refused : {place : ℕ} {hs : List Delivery} {after : Board} (s : State) (pool other : List ℕ) (at : ℕ) (output : List ℕ) (q : Refusal)
-      → receive windowSize (with s pool) other at output .answer ≡ Refused q → Came (OnStates s pool place hs after) after → Came (OnStates s pool place hs after) after
+      → receive (with s pool) other at output .answer ≡ Refused q → Came (OnStates s pool place hs after) after → Came (OnStates s pool place hs after) after
   on-refused {place} {hs} {after} s pool other at output q a c =
-      let t : States.Takes (receive windowSize) frame (receive windowSize (with s pool) other at output .board) place hs (with (c .state) (after .pool)) =
-      rw (refused-keeps (draftOf s) windowSize (with s pool) other at output q a) (c .is) in
+      let t : States.Takes receive frame (receive (with s pool) other at output .board) place hs (with (c .state) (after .pool)) =
+      rw (refused-keeps (draftOf s) (windowOf s) (with s pool) other at output q a) (c .is) in
       record { state = c .state; on = c .on; is = States.refused other at output q a t }
 
-  takes-states : {b after : Board} {place : ℕ} {hs : List Delivery} → Takes frame b place hs after → (s : State) → On s b → Came (OnStates s (b .pool) place hs after) after
-  takes-states (bundle {b} {place = place} {hs} output result z one t) s O =
+  -- what the calls after one come to, from the state that it leaves
+  abbrev Onward : Board → ℕ → List Delivery → Board → Type 0
+  Onward b place hs after = (s : State) → On s b → Came (OnStates s (b .pool) place hs after) after
+
+  from-bundle : {b after : Board} {place : ℕ} {hs : List Delivery} (output result : List ℕ) → call b frame place output result .status ≡ 0 → entry (call b frame place output result) 0 ≡ 1
+      → Onward (left (call b frame place output result)) (entry (call b frame place output result) 2) hs after → Onward b place (bundleOf (call b frame place output result) ∷ hs) after
+  from-bundle {b} {place = place} output result z one later s O =
       let d = saw-bundle s b O frame place output result z one in
       let v = reads-bundle s b O frame place output result low (d .0) (d .1) (d .2) (d .3) in
-      let c = takes-states t (receive windowSize (with s (b .pool)) frame place output .board .state) (on-left s b O frame place output result low) in
+      let c = later (receive (with s (b .pool)) frame place output .board .state) (on-left s b O frame place output result low) in
       rw (v .0) (on-bundle s (b .pool) place output (d .0) (d .1) (d .2) _ _ (d .3) (pool-of s b O frame place output result) (v .1) c)
-  takes-states (finished {b} {place = place} output result z none) s O =
-      let r : Reply = receive windowSize (with s (b .pool)) frame place output in
+
+  from-finished : {b : Board} {place : ℕ} (output result : List ℕ) → call b frame place output result .status ≡ 0 → entry (call b frame place output result) 0 ≡ 0
+      → Onward b place [] (left (call b frame place output result))
+  from-finished {b} {place} output result z none s O =
+      let r : Reply = receive (with s (b .pool)) frame place output in
       record {
         state = r .board .state;
         on = on-left s b O frame place output result low;
         is = rw (pool-of s b O frame place output result) (States.finished output (saw-finished s b O frame place output result z none));
       }
-  takes-states (refused {b} {after} {place} {hs} other at output result n t) s O =
+
+  from-refused : {b after : Board} {place : ℕ} {hs : List Delivery} (other : List ℕ) (at : ℕ) (output result : List ℕ) → (call b other at output result .status ≡ 0 → ⊥)
+      → Onward (left (call b other at output result)) place hs after → Onward b place hs after
+  from-refused {b} other at output result n later s O =
       let d = saw-refused s b O other at output result n in
       let k = refused-left s b O other at output result (d .0) (d .1) in
-      on-refused s (b .pool) other at output (d .0) (d .1) (rw (k .1) at (takes-states t s (k .0)))
+      on-refused s (b .pool) other at output (d .0) (d .1) (rw (k .1) at (later s (k .0)))
+
+  takes-states : {b after : Board} {place : ℕ} {hs : List Delivery} → Takes frame b place hs after → Onward b place hs after
+  takes-states (bundle output result z one t) = from-bundle output result z one (takes-states t)
+  takes-states (finished output result z none) = from-finished output result z none
+  takes-states (refused other at output result n t) = from-refused other at output result n (takes-states t)
 
 -- ---- a board's list
 
-pub calls-states : {b : Board} {es : List Entry} → Calls b es → (s : State) → On s b → States.Calls (receive windowSize) (with s (b .pool)) es
+pub calls-states : {b : Board} {es : List Entry} → Calls b es → (s : State) → On s b → States.Calls receive (with s (b .pool)) es
 calls-states over s O = States.over
 calls-states (taken low t c) s O = let k = takes-states _ low t s O in States.taken (k .is) (calls-states c (k .state) (k .on))
 calls-states (between {b} {es} other place output result n c) s O =
     let d = saw-refused s b O other place output result n in
     let k = refused-left s b O other place output result (d .0) (d .1) in
-    let u : States.Calls (receive windowSize) (receive windowSize (with s (b .pool)) other place output .board) es =
-    rw (refused-keeps (draftOf s) windowSize (with s (b .pool)) other place output (d .0) (d .1)) (rw (k .1) at (calls-states c s (k .0))) in
+    let u : States.Calls receive (receive (with s (b .pool)) other place output .board) es =
+    rw (refused-keeps (draftOf s) (windowOf s) (with s (b .pool)) other place output (d .0) (d .1)) (rw (k .1) at (calls-states c s (k .0))) in
     States.between other place output (d .0) (d .1) u
 
 -- ---- from states to images
@@ -184,18 +200,18 @@ module _ (b : Rows.Board) (g : Good (b .state)) (frame : List ℕ) (place : ℕ)
   abbrev O : On (b .state) (imaged b)
   O = on-imaged b g
 
-  left-imaged : left (call (imaged b) frame place output four) ≡ imaged (receive windowSize b frame place output .board)
+  left-imaged : left (call (imaged b) frame place output four) ≡ imaged (receive b frame place output .board)
   left-imaged =
       let i = image-of (b .state) (imaged b) O frame place output four in
       let p = pool-of (b .state) (imaged b) O frame place output four in
       λ j. record { image = i j; pool = p j }
 
   -- a refused call between others
-  refused-imaged : (q : Refusal) → receive windowSize b frame place output .answer ≡ Refused q → call (imaged b) frame place output four .status ≡ 0 → ⊥
+  refused-imaged : (q : Refusal) → receive b frame place output .answer ≡ Refused q → call (imaged b) frame place output four .status ≡ 0 → ⊥
   refused-imaged = refused-not (b .state) (imaged b) O frame place output four
 
 module _ (frame : List ℕ) (low : Octets frame) where
-  takes-images : {b after : Rows.Board} {place : ℕ} {hs : List Delivery} → States.Takes (receive windowSize) frame b place hs after → Good (b .state)
+  takes-images : {b after : Rows.Board} {place : ℕ} {hs : List Delivery} → States.Takes receive frame b place hs after → Good (b .state)
       → Takes frame (imaged b) place hs (imaged after) × Good (after .state)
   takes-images {after = after} (States.delivered {b} {place = place} {hs} output size next origin a t) g =
       let v = reads-bundle (b .state) (imaged b) (on-imaged b g) frame place output four low size next origin a in
@@ -207,17 +223,17 @@ module _ (frame : List ℕ) (low : Octets frame) where
       (finished-entry (b .state) (imaged b) (on-imaged b g) frame place output four a) in
       (rw (left-imaged b g frame place output) at t, call-good (b .state) g (b .pool) frame place output low)
   takes-images {after = after} (States.refused {b} {place = place} {hs} other at output q a t) g =
-      let k = refused-keeps (draftOf (b .state)) windowSize b other at output q a in
+      let k = refused-keeps (draftOf (b .state)) (windowOf (b .state)) b other at output q a in
       let ih = takes-images t (rw k g) in
       let u : Takes frame (left (call (imaged b) other at output four)) place hs (imaged after) = rw (left-imaged b g other at output) (ih .0) in
       (refused other at output four (refused-imaged b g other at output q a) u, ih .1)
 
-pub calls-images : {b : Rows.Board} {es : List Entry} → States.Calls (receive windowSize) b es → Good (b .state) → ((e : Entry) → List·Memᴰ e es → Octets (e .frame)) → Calls (imaged b) es
+pub calls-images : {b : Rows.Board} {es : List Entry} → States.Calls receive b es → Good (b .state) → ((e : Entry) → List·Memᴰ e es → Octets (e .frame)) → Calls (imaged b) es
 calls-images States.over g low = over
 calls-images (States.taken t c) g low =
     let k = takes-images _ (low _ (List·Memᴰ·head refl)) t g in
     taken (low _ (List·Memᴰ·head refl)) (k .0) (calls-images c (k .1) (λ e m. low e (List·Memᴰ·tail m)))
 calls-images (States.between {b} {es} other place output q a c) g low =
     let u : Calls (left (call (imaged b) other place output four)) es =
-    rw (left-imaged b g other place output) (calls-images c (rw (refused-keeps (draftOf (b .state)) windowSize b other place output q a) g) low) in
+    rw (left-imaged b g other place output) (calls-images c (rw (refused-keeps (draftOf (b .state)) (windowOf (b .state)) b other place output q a) g) low) in
     between other place output four (refused-imaged b g other place output q a) u

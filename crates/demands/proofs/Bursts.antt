@@ -7,7 +7,8 @@ use native.Mathlib.Omega.{arith}
 use lib.ListN.{length, getD}
 use Rattle.octets.specs.Octets.{Octets}
 use Rattle.wire.proofs.Spans.{sized}
-use Rattle.window.specs.Window.{windowSize, sixteen}
+use Rattle.rows.specs.State.{windowOf}
+use Rattle.rows.proofs.Rows.{sound-window}
 use Rattle.rows.specs.declared.State.{State}
 use Rattle.rows.specs.Message.{draftOf, Board}
 use Rattle.frames.specs.Singles.{roomIn}
@@ -43,7 +44,7 @@ module _ (s : State) (g : Good s) (pool sizes octets : List ℕ) (k place : ℕ)
   b = with s pool
 
   abbrev r : Reply
-  r = receiveBurst (draftOf s) windowSize b sizes octets k place l
+  r = receiveBurst (draftOf s) (windowOf s) b sizes octets k place l
 
   abbrev e : Exported
   e = burst (imageOf s) pool sizes octets k place l result
@@ -54,11 +55,11 @@ module _ (s : State) (g : Good s) (pool sizes octets : List ℕ) (k place : ℕ)
 
   -- a burst that is refused gives the board back
   keeps : (q : Refusal) → r .answer ≡ Refused q → r .board ≡ b
-  keeps q a = go (refusal (draftOf s) windowSize b sizes octets k place (l .output)) refl
+  keeps q a = go (refusal (draftOf s) (windowOf s) b sizes octets k place (l .output)) refl
     where
-      go : (o : Option Refusal) → refusal (draftOf s) windowSize b sizes octets k place (l .output) ≡ o → r .board ≡ b
-      go (some f) h = ap (λ (x : Reply). x .board) (refused (draftOf s) windowSize b sizes octets k place l f h)
-      go none h = absurd (let x = ap (λ (y : Reply). y .answer) (treated (draftOf s) windowSize b sizes octets k place l h) in let z : _≡_ {A = ℕ} 0 1 = cc in omega arith)
+      go : (o : Option Refusal) → refusal (draftOf s) (windowOf s) b sizes octets k place (l .output) ≡ o → r .board ≡ b
+      go (some f) h = ap (λ (x : Reply). x .board) (refused (draftOf s) (windowOf s) b sizes octets k place l f h)
+      go none h = absurd (let x = ap (λ (y : Reply). y .answer) (treated (draftOf s) (windowOf s) b sizes octets k place l h) in let z : _≡_ {A = ℕ} 0 1 = cc in omega arith)
 
   pub image-left : e .image ≡ imageOf (r .board .state)
   unfolding exported kept
@@ -72,8 +73,8 @@ module _ (s : State) (g : Good s) (pool sizes octets : List ℕ) (k place : ℕ)
   unfolding exported
   status-is = ap (λ (x : Exported). x .status) exports
 
-  shaped : Shaped (draftOf s) windowSize b
-  shaped = record { rows = g .rows; indexes = λ r r<. g .shaped r r< .indexes64; lengths = λ r r<. g .shaped r r< .lengths64 }
+  shaped : Shaped (draftOf s) (windowOf s) b
+  shaped = record { window = refl; rows = g .rows; indexes = λ r r<. g .shaped r r< .indexes64; lengths = λ r r<. g .shaped r r< .lengths64 }
 
   module _ (low : Octets octets) (short : Sixteen sizes) (long : Long l) where
     pub burst-good : Good (r .board .state)
@@ -82,13 +83,13 @@ module _ (s : State) (g : Good s) (pool sizes octets : List ℕ) (k place : ℕ)
         go : (a : Answer) → r .answer ≡ a → Good (r .board .state)
         go (Refused f) q = rw (keeps f q) g
         go (Taken bundles used k′ place′ refused₁) q =
-            let R = burst-ready (draftOf s) (sized (s .settings .version)) (priced-read (s .settings .version)) windowSize sixteen b sizes octets k place l bundles used k′ place′ refused₁ shaped short q in
-            let E = burst-equals-draft (s .settings .version) b sizes octets k place l bundles used k′ place′ refused₁ shaped long short q in
-            record { sound = R .sound; shaped = R .shaped; rows = R .rows; low = singles-low (s .settings .version) windowSize (roomIn limits (length (l .output))) sizes octets (E .calls) low (g .low) }
+            let R = burst-ready (draftOf s) (sized (s .settings .version)) (priced-read (s .settings .version)) (windowOf s) (sound-window s (g .sound)) b sizes octets k place l bundles used k′ place′ refused₁ shaped short q in
+            let E = burst-equals-draft (s .settings .version) (windowOf s) (sound-window s (g .sound)) b sizes octets k place l bundles used k′ place′ refused₁ shaped long short q in
+            record { sound = R .sound; shaped = R .shaped; rows = R .rows; low = singles-low (s .settings .version) (windowOf s) (roomIn limits (length (l .output))) sizes octets (E .calls) low (g .low) }
 
     -- a burst that returns 0 is single calls on the state
     pub burst-same : e .status ≡ 0
-        → Equals (draftOf s) windowSize b sizes octets k place l (with (stateOf (e .image)) (e .pool)) (e .lists) (getD (e .result) 0 0) (getD (e .result) 1 0) (getD (e .result) 2 0) (getD (e .result) 3 0) (getD (e .result) 4 0)
+        → Equals (draftOf s) (windowOf s) b sizes octets k place l (with (stateOf (e .image)) (e .pool)) (e .lists) (getD (e .result) 0 0) (getD (e .result) 1 0) (getD (e .result) 2 0) (getD (e .result) 3 0) (getD (e .result) 4 0)
     unfolding exported report
     burst-same zero = go (r .answer) refl
       where
@@ -105,10 +106,10 @@ module _ (s : State) (g : Good s) (pool sizes octets : List ℕ) (k place : ℕ)
         result-is = ap (λ (x : Exported). x .result) exports
 
         go : (a : Answer) → r .answer ≡ a
-            → Equals (draftOf s) windowSize b sizes octets k place l (with (stateOf (e .image)) (e .pool)) (e .lists) (getD (e .result) 0 0) (getD (e .result) 1 0) (getD (e .result) 2 0) (getD (e .result) 3 0) (getD (e .result) 4 0)
-        go (Taken bundles used k′ place′ refused₁) q = rw (back, pool-left, lists-left, result-is, q) (burst-equals-draft (s .settings .version) b sizes octets k place l bundles used k′ place′ refused₁ shaped long short q)
+            → Equals (draftOf s) (windowOf s) b sizes octets k place l (with (stateOf (e .image)) (e .pool)) (e .lists) (getD (e .result) 0 0) (getD (e .result) 1 0) (getD (e .result) 2 0) (getD (e .result) 3 0) (getD (e .result) 4 0)
+        go (Taken bundles used k′ place′ refused₁) q = rw (back, pool-left, lists-left, result-is, q) (burst-equals-draft (s .settings .version) (windowOf s) (sound-window s (g .sound)) b sizes octets k place l bundles used k′ place′ refused₁ shaped long short q)
         go (Refused f) q = absurd (none-refused f (sym (ap status q) ∙ sym status-is ∙ zero))
 
   -- with a sound state it is not refused with 1
   pub burst-taken : e .status ≡ 1 → ⊥
-  burst-taken one = sound-not-one (draftOf s) windowSize b sizes octets k place l (g .sound) (sym (status-number (r .answer)) ∙ sym status-is ∙ one)
+  burst-taken one = sound-not-one (draftOf s) (windowOf s) b sizes octets k place l (g .sound) (sym (status-number (r .answer)) ∙ sym status-is ∙ one)

@@ -9,11 +9,10 @@ use lib.Dec.{eqb, ltb}
 use Rattle.octets.proofs.Flags.{cond-elim}
 use Rattle.wire.specs.Frame.{checked}
 use Rattle.wire.specs.declared.Checked.the-variants as Frame
-use Rattle.window.specs.Window.{windowSize}
 use Rattle.pieces.specs.Pieces.{bundleMax}
 use Rattle.rows.specs.declared.State as Row
 use Rattle.rows.specs.State as Rows
-use Rattle.rows.specs.State.{fresh}
+use Rattle.rows.specs.State.{windowOf, fresh}
 use Rattle.rows.specs.Message.{draftOf}
 use Rattle.receiver.specs.declared.Answer.{Answer}
 use Rattle.receiver.specs.declared.Answer.the-variants.{Delivered, Finished, Refused}
@@ -56,19 +55,18 @@ record OnReceiver (image : List ℕ) : Type 0 where
   good : Images.Good state
 
 receiver-on : {image : List ℕ} → Boards.Reached image → OnReceiver image
-unfolding Receiving.started
-receiver-on (Boards.started v) = record { state = fresh v windowSize; on = refl; good = fresh-good v }
+receiver-on (Boards.started v w old e) = let m = Images.made v w old e in record { state = fresh v w; on = m .1; good = fresh-good v w (m .0) }
 receiver-on (Boards.called {image} pool frame place output result low u) =
     let k = receiver-on u in
     record {
-      state = receive windowSize (with (k .state) pool) frame place output .board .state;
+      state = receive (with (k .state) pool) frame place output .board .state;
       on = ap (λ (i : List ℕ). received i pool frame place output result .image) (k .on) ∙ Images.image-left (k .state) (k .good) pool frame place output result;
       good = call-good (k .state) (k .good) pool frame place output low;
     }
 receiver-on (Boards.burst {image} pool sizes octets frame place l result low short long u) =
     let k = receiver-on u in
     record {
-      state = receiveBurst (draftOf (k .state)) windowSize (with (k .state) pool) sizes octets frame place l .board .state;
+      state = receiveBurst (draftOf (k .state)) (windowOf (k .state)) (with (k .state) pool) sizes octets frame place l .board .state;
       on = ap (λ (i : List ℕ). burst i pool sizes octets frame place l result .image) (k .on) ∙ Bursts.image-left (k .state) (k .good) pool sizes octets frame place l result;
       good = Bursts.burst-good (k .state) (k .good) pool sizes octets frame place l result low short long;
     }
@@ -80,13 +78,13 @@ receiver-sound s g = rw (ReceiverImages.image-of-is s (fits s g), ReceiverImages
 receive-taken : (s : Row.State) → Images.Good s → (pool frame : List ℕ) (place : ℕ) (output result : List ℕ)
     → numberIn (received (Receiver.imageOf s) pool frame place output result .status) ≡ 1 → ⊥
 receive-taken s g pool frame place output result e =
-    go (receive windowSize (with s pool) frame place output .answer) refl (rw (Images.status-is s g pool frame place output result) at e)
+    go (receive (with s pool) frame place output .answer) refl (rw (Images.status-is s g pool frame place output result) at e)
   where
-    go : (a : Answer) → receive windowSize (with s pool) frame place output .answer ≡ a → numberIn (Answers.status a) ≡ 1 → ⊥
+    go : (a : Answer) → receive (with s pool) frame place output .answer ≡ a → numberIn (Answers.status a) ≡ 1 → ⊥
     go (Delivered n next o) q e = omega arith
     go Finished q e = omega arith
     go (Refused f) q e =
-        sound-not-one (draftOf s) windowSize (with s pool) frame place output (g .sound) f (refused-for (draftOf s) windowSize (with s pool) frame place output f q) (sym (number-back f) ∙ e)
+        sound-not-one (draftOf s) (windowOf s) (with s pool) frame place output (g .sound) f (refused-for (draftOf s) (windowOf s) (with s pool) frame place output f q) (sym (number-back f) ∙ e)
 
 -- ---- the sender
 

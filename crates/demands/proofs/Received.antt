@@ -13,7 +13,7 @@ use Rattle.wire.specs.Frame.{Item, Sized}
 use Rattle.wire.proofs.Order.{good-place}
 use Rattle.wire.proofs.Places.{taken as accepted}
 use Rattle.wire.proofs.Spans.{sized}
-use Rattle.window.specs.Window.{Window, windowSize, sixteen}
+use Rattle.window.specs.Window.{Window}
 use Rattle.pieces.specs.Pieces.{bundleMax}
 use Rattle.rows.specs.declared.Origin.{Origin}
 use Rattle.rows.specs.Message.{Draft, Board, Handed, draft, messagesFrom}
@@ -183,14 +183,14 @@ fitting-append D (f ∷ fs) fs′ = go (ltb 0 (numberOf (unfit D f 0))) (fitting
     go true later = later
     go false later = ap (λ (l : List (List ℕ)). f ∷ l) later
 
-shaped : (v : Version) {b : Board} → Ready windowSize b → Shaped (draft v) windowSize b
-shaped v R = record { rows = R .rows; indexes = λ r r<. R .shaped r r< .indexes64; lengths = λ r r<. R .shaped r r< .lengths64 }
+shaped : (v : Version) {w : ℕ} {b : Board} → Ready w b → Shaped (draft v) w b
+shaped v R = record { window = R .window; rows = R .rows; indexes = λ r r<. R .shaped r r< .indexes64; lengths = λ r r<. R .shaped r r< .lengths64 }
 
-one-list : (v : Version) (sizes octets : List ℕ) (b mid : Board) (gs gs′ : List Given) (fs : List (List ℕ)) → Sixteen sizes → Ready windowSize b → Continued (draft v) windowSize sizes octets b 0 0 gs mid
-    → (Ready windowSize mid → Received v (receiveAs (draft v) windowSize) mid gs′ fs) → Received v (receiveAs (draft v) windowSize) b (gs ++ gs′) (framesOf sizes octets ++ fs)
-one-list v sizes octets b mid gs gs′ fs short R c later =
-    let x = all-singles-draft v sizes octets b mid gs (shaped v R) short c in
-    let t = all-taken (draft v) (sized v) windowSize sixteen (framesOf sizes octets) 0 0 0 (length sizes) 0 b mid (x .0) (x .1) (x .3) R in
+one-list : (v : Version) (w : ℕ) (win : Window w) (sizes octets : List ℕ) (b mid : Board) (gs gs′ : List Given) (fs : List (List ℕ)) → Sixteen sizes → Ready w b → Continued (draft v) w sizes octets b 0 0 gs mid
+    → (Ready w mid → Received v (receiveAs (draft v) w) mid gs′ fs) → Received v (receiveAs (draft v) w) b (gs ++ gs′) (framesOf sizes octets ++ fs)
+one-list v w win sizes octets b mid gs gs′ fs short R c later =
+    let x = all-singles-draft v w win sizes octets b mid gs (shaped v R) short c in
+    let t = all-taken (draft v) (sized v) w win (framesOf sizes octets) 0 0 0 (length sizes) 0 b mid (x .0) (x .1) (x .3) R in
     let r = later (t .ready) in
     let all : map bare (handedOf (t .entries ++ r .entries)) ≡ x .0 ++ map bare (handedOf (r .entries)) =
     ap (map bare) (handed-append (t .entries) (r .entries)) ∙ map-append bare (handedOf (t .entries)) (handedOf (r .entries)) ∙ ap (λ (l : List Handed). l ++ map bare (handedOf (r .entries))) (sym (t .same)) in
@@ -206,12 +206,12 @@ one-list v sizes octets b mid gs gs′ fs short R c later =
           ∙ sym (fitting-append (draft v) (framesOf sizes octets) fs);
     }
 
-received : (v : Version) {b : Board} {gs : List Given} {fs : List (List ℕ)} → Batches v b gs fs → Ready windowSize b → Received v (receiveAs (draft v) windowSize) b gs fs
+received : (v : Version) (w : ℕ) (win : Window w) {b : Board} {gs : List Given} {fs : List (List ℕ)} → Batches v w b gs fs → Ready w b → Received v (receiveAs (draft v) w) b gs fs
 unfolding handedOf fitting
-received v no-list R = record { entries = []; notes = []; calls = Calls.over; gave = gave-none; taken = refl }
-received v (batch {b} {mid} {gs} {gs′} {fs} sizes octets short c bs) R = one-list v sizes octets b mid gs gs′ fs short R c (λ R₁. received v bs R₁)
+received v w win no-list R = record { entries = []; notes = []; calls = Calls.over; gave = gave-none; taken = refl }
+received v w win (batch {b} {mid} {gs} {gs′} {fs} sizes octets short c bs) R = one-list v w win sizes octets b mid gs gs′ fs short R c (λ R₁. received v w win bs R₁)
 
 pub bursts-receive : BurstsReceive
-bursts-receive v b gs fs F bs =
-    let r = received v bs (rw (← F .started) at (fresh-ready windowSize sixteen v (b .pool) (F .pooled))) in
-    record { entries = r .entries; notes = r .notes; calls = calls-own v windowSize F (r .calls); gave = r .gave; taken = r .taken }
+bursts-receive v w win b gs fs F bs =
+    let r = received v w win bs (rw (← F .started) at (fresh-ready w win v (b .pool) (F .pooled))) in
+    record { entries = r .entries; notes = r .notes; calls = calls-own v w F (r .calls); gave = r .gave; taken = r .taken }

@@ -69,10 +69,10 @@ used =
     }
 
 -- any fresh board that takes these frames by `btpu_receive` hands out both bundles, and the cancelled one not
-pub both-arrive : (b : Board) → Fresh Draft02 b → (es : List Entry) → Calls b es → map (λ (e : Entry). e .frame) es ≡ frames
+pub both-arrive : (w : ℕ) (b : Board) → Fresh Draft02 w b → (es : List Entry) → Calls b es → map (λ (e : Entry). e .frame) es ≡ frames
     → handedOf es ≡ delivery (Transfer 0) long ∷ delivery Whole short ∷ []
 unfolding bundles
-both-arrive = demand2 Draft02 .arrives frames bundles used
+both-arrive w = demand2 Draft02 w .arrives frames bundles used
 
 -- ---- draft 00
 
@@ -98,7 +98,7 @@ used00 =
       frames = refl;
     }
 
-pub both-arrive00 : (b : Board) → Fresh Draft00 b → (es : List Entry) → Calls b es → map (λ (e : Entry). e .frame) es ≡ frames00
+pub both-arrive00 : (w : ℕ) (b : Board) → Fresh Draft00 w b → (es : List Entry) → Calls b es → map (λ (e : Entry). e .frame) es ≡ frames00
     → handedOf es ≡ delivery (Transfer 4294967295) long ∷ delivery Whole short ∷ []
 unfolding bundles00
-both-arrive00 = demand2 Draft00 .arrives frames00 bundles00 used00
+both-arrive00 w = demand2 Draft00 w .arrives frames00 bundles00 used00

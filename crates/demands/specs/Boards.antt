@@ -7,7 +7,6 @@ use lib.ListN.{length, getD, take}
 use lib.Dec.{eqb}
 use Rattle.octets.specs.Octets.{Octets}
 use Rattle.wire.specs.declared.Version.{Version}
-use Rattle.window.specs.Window.{windowSize}
 use Rattle.pieces.specs.Pieces.{bundleMax}
 use Rattle.rows.specs.declared.Origin.{Origin}
 use Rattle.rows.specs.declared.Origin.the-variants.{Whole, Transfer}
@@ -22,11 +21,13 @@ pub record Board : Type 0 where
   pub image : List ℕ
   pub pool : List ℕ
 
--- "A fresh board", "set to one draft at start" (document 02, E5): the image as `btpu_receiver_start` leaves it, or `btpu_receiver_start_00`, "and a
--- pool of any octets"
-pub record Fresh (v : Version) (b : Board) : Type 0 where
-  pub started : b .image ≡ Exported.started v
-  pub pooled : length (b .pool) ≡ windowSize * bundleMax
+-- "A fresh board", "set to one draft at start" (document 02, E5), its window "chosen at start" (E6), "and a pool of any octets": a start over any
+-- octets returned 0 and left the image. `btpu_receiver_start` is draft 02 with the plain window, `btpu_receiver_start_window` draft 02 and
+-- `btpu_receiver_start_00` draft 00 with a window given.
+pub record Fresh (v : Version) (w : ℕ) (b : Board) : Type 0 where
+  pub old : List ℕ
+  pub started : Exported.started v old w ≡ (0, b .image)
+  pub pooled : length (b .pool) ≡ w * bundleMax
 
 -- `btpu_receive` with a frame, a place, an output and a result
 abbrev pub call : Board → List ℕ → ℕ → List ℕ → List ℕ → Exported
@@ -79,7 +80,7 @@ pub data Calls : Board → List Entry → Type 0 where
 
 -- An image after a start and any receiving calls and bursts, refused ones too, with frames of octets and any pools.
 pub data Reached : List ℕ → Type 0 where
-  started : (v : Version) → Reached (Exported.started v)
+  started : {image : List ℕ} (v : Version) (w : ℕ) (old : List ℕ) → Exported.started v old w ≡ (0, image) → Reached image
   called : {image : List ℕ} (pool frame : List ℕ) (place : ℕ) (output result : List ℕ) → Octets frame → Reached image
       → Reached (received image pool frame place output result .image)
   burst : {image : List ℕ} (pool sizes octets : List ℕ) (frame place : ℕ) (l : Lists) (result : List ℕ) → Octets octets → Sixteen sizes → Long l → Reached image

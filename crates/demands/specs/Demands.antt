@@ -5,7 +5,7 @@ use Prim.Native.Nat.{ℕ, _-_, _<_, _^_}
 use lib.ListN.{getD}
 use Rattle.octets.specs.Octets.{Octets}
 use Rattle.wire.specs.declared.Version.{Version}
-use Rattle.window.specs.Window.{windowSize}
+use Rattle.rows.specs.State.{windowOf}
 use Rattle.rows.specs.Message as Rows
 use Rattle.rows.specs.Message.{draftOf, Handed}
 use Rattle.receiver.specs.Receive.{receive}
@@ -32,20 +32,21 @@ use Rattle.demands.specs.Senders.{Used, Flushed, callOf}
 
 -- ---- Demand 3
 
--- A fresh board takes frames of the record; es are its whole list.
-pub record Reception {v : Version} (R : Record v) (es : List Entry) : Type 0 where
+-- A fresh board of window w takes frames of the record; es are its whole list.
+pub record Reception {v : Version} (R : Record v) (w : ℕ) (es : List Entry) : Type 0 where
   pub board : Board
-  pub fresh : Fresh v board
+  pub fresh : Fresh v w board
   pub calls : Calls board es
   pub drawn : (e : Entry) → List·Memᴰ e es → List·Memᴰ (e .frame) (R .frames)
 
-abbrev pub Demand3 : {v : Version} → Record v → Type 0
-Demand3 R = Claim R (Reception R) (Reception R) (windowSize - 1)
+-- "'15 behind' in demand 3 reads 'window less one', by the second board's window" (document 02, E6)
+abbrev pub Demand3 : {v : Version} → Record v → ℕ → ℕ → Type 0
+Demand3 R w₁ w₂ = Claim R (Reception R w₁) (Reception R w₂) (w₂ - 1)
 
 -- ---- Demand 2
 
-abbrev pub Demand2 : Version → Type 0
-Demand2 v = Arrival (Flushed v) Board (Fresh v) Calls
+abbrev pub Demand2 : Version → ℕ → Type 0
+Demand2 v w = Arrival (Flushed v) Board (Fresh v w) Calls
 
 -- ---- a row of exported calls on images is the row of calls on states
 
@@ -53,9 +54,9 @@ abbrev pub onState : Board → Rows.Board
 onState b = record { state = Receiver.stateOf (b .image); pool = b .pool }
 
 pub record SameCalls : Type 0 where
-  pub toStates : (v : Version) (b : Board) → Fresh v b → (es : List Entry) → Calls b es → States.Calls (receive windowSize) (onState b) es
-  pub toImages : (v : Version) (b : Board) → Fresh v b → (es : List Entry) → ((e : Entry) → List·Memᴰ e es → Octets (e .frame))
-      → States.Calls (receive windowSize) (onState b) es → Calls b es
+  pub toStates : (v : Version) (w : ℕ) (b : Board) → Fresh v w b → (es : List Entry) → Calls b es → States.Calls receive (onState b) es
+  pub toImages : (v : Version) (w : ℕ) (b : Board) → Fresh v w b → (es : List Entry) → ((e : Entry) → List·Memᴰ e es → Octets (e .frame))
+      → States.Calls receive (onState b) es → Calls b es
   pub usedStates : {v : Version} {p n : ℕ} {image d b : List ℕ} {fs : List (List ℕ)} {bs : List Handed} → n < 2 ^ 32
       → Used v p n image d b fs bs → Use.Used v p n (Sender.stateOf image) d b fs bs
 
@@ -77,5 +78,5 @@ ExportedBursts =
     (image : List ℕ) → Boards.Reached image → (pool sizes octets : List ℕ) (k place : ℕ) (l : Lists) (result : List ℕ) → Octets octets → Sixteen sizes → Long l
     → let e : Bursts.Exported = burst image pool sizes octets k place l result in
     e .status ≡ 0
-    → Equals (draftOf (Receiver.stateOf image)) windowSize (onState (record { image = image; pool = pool })) sizes octets k place l (onState (record { image = e .image; pool = e .pool })) (e .lists)
+    → Equals (draftOf (Receiver.stateOf image)) (windowOf (Receiver.stateOf image)) (onState (record { image = image; pool = pool })) sizes octets k place l (onState (record { image = e .image; pool = e .pool })) (e .lists)
     (getD (e .result) 0 0) (getD (e .result) 1 0) (getD (e .result) 2 0) (getD (e .result) 3 0) (getD (e .result) 4 0)

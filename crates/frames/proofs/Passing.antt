@@ -13,7 +13,7 @@ use lib.Seq.{drop-cons, drop-drop, length-take-le}
 use borrow.Author.Tests.{lt-ltb, le-ltb, ltb-true, ltb-false}
 use Rattle.octets.specs.Octets.{sumOf}
 use Rattle.octets.proofs.Flags.{bool, both}
-use Rattle.window.specs.Window.{windowSize}
+use Rattle.rows.specs.State.{windowOf}
 use Rattle.rows.specs.declared.Settings.{Settings}
 use Rattle.rows.specs.Message.{Draft, draft, draftOf, messagesFrom}
 use Rattle.rows.proofs.Keeping.{settingsOf}
@@ -43,9 +43,13 @@ pub record Keeps (r₀ r : Run) : Type 0 where
 abbrev pub draftAt : Reach → Draft
 draftAt r = draftOf (r .run .board .state)
 
+-- and the window
+abbrev pub widthAt : Reach → ℕ
+widthAt r = windowOf (r .run .board .state)
+
 -- r is how far the frames before frame k came, which starts at an octet
 pub record Passing (limits : Limits) (sizes octets : List ℕ) (r₀ : Reach) (k at : ℕ) (r : Reach) : Type 0 where
-  pub same : through (draftAt r₀) windowSize limits r₀ (framesOf sizes octets) ≡ through (draftAt r₀) windowSize limits r (framesOf (drop k sizes) (drop at octets))
+  pub same : through (draftAt r₀) (widthAt r₀) limits r₀ (framesOf sizes octets) ≡ through (draftAt r₀) (widthAt r₀) limits r (framesOf (drop k sizes) (drop at octets))
   pub set : settingsOf (r .run .board) ≡ settingsOf (r₀ .run .board)
   pub able : ableIn (r .run)
   pub some : k ≤ length sizes
@@ -76,15 +80,15 @@ begins limits sizes octets r A room zero = record {
 
 module _ {limits : Limits} {sizes octets : List ℕ} {r₀ : Reach} {k at : ℕ} {r : Reach} (P : Passing limits sizes octets r₀ k at r) where
   -- the loop ends: no frame is left, or a limit is reached
-  pub ends : goesOn limits sizes k r ≡ false → r ≡ through (draftAt r₀) windowSize limits r₀ (framesOf sizes octets)
+  pub ends : goesOn limits sizes k r ≡ false → r ≡ through (draftAt r₀) (widthAt r₀) limits r₀ (framesOf sizes octets)
   unfolding through framesOf
   ends test = sym (P .same ∙ go (bool (ltb k (length sizes))))
     where
-      stops : (fs : List (List ℕ)) → roomy (r .run .progress) limits (length (r .run .output)) ≡ false → through (draftAt r₀) windowSize limits r fs ≡ r
+      stops : (fs : List (List ℕ)) → roomy (r .run .progress) limits (length (r .run .output)) ≡ false → through (draftAt r₀) (widthAt r₀) limits r fs ≡ r
       stops [] e = refl
       stops (f ∷ fs) e = rw e
 
-      go : (ltb k (length sizes) ≡ true) ⊎ (ltb k (length sizes) ≡ false) → through (draftAt r₀) windowSize limits r (framesOf (drop k sizes) (drop at octets)) ≡ r
+      go : (ltb k (length sizes) ≡ true) ⊎ (ltb k (length sizes) ≡ false) → through (draftAt r₀) (widthAt r₀) limits r (framesOf (drop k sizes) (drop at octets)) ≡ r
       go (inl e) = stops (framesOf (drop k sizes) (drop at octets)) (rw e at test)
       go (inr e) = rw (drop-of-length-le sizes {i = k} (ltb-false k (length sizes) e))
 
@@ -147,11 +151,11 @@ module _ {limits : Limits} {sizes octets : List ℕ} {r₀ : Reach} {k at : ℕ}
         fits = subst (λ (s : Settings). Fit (draft (s .version)) f place) (sym (P .set)) (fit (draftAt r₀) f place (unrefused (unfit (draftAt r₀) f place) (rw e at good)))
 
         module _ (t : Run) (ran : t ≡ runFrom limits (r .run) f) where
-          went : t ≡ run windowSize (draftAt r₀ .order) limits (r .run) (messagesFrom (draftAt r₀) f place)
-          went = ran ∙ ap (λ (s : Settings). run windowSize (draft (s .version) .order) limits (r .run) (messagesFrom (draft (s .version)) f place)) (P .set)
+          went : t ≡ run (widthAt r₀) (draftAt r₀ .order) limits (r .run) (messagesFrom (draftAt r₀) f place)
+          went = ran ∙ ap (λ (s : Settings). run (s .window) (draft (s .version) .order) limits (r .run) (messagesFrom (draft (s .version)) f place)) (P .set)
 
           -- the frame is left before its end
-          pub stopped : t .progress .next < n → within r t ≡ through (draftAt r₀) windowSize limits r₀ (framesOf sizes octets)
+          pub stopped : t .progress .next < n → within r t ≡ through (draftAt r₀) (widthAt r₀) limits r₀ (framesOf sizes octets)
           unfolding through
           stopped lt = sym (P .same ∙ rw (frames-here, tests .1, ← e, le-ltb 0 reason good, ← went, length-f, lt-ltb (t .progress .next) n lt))
 
@@ -160,7 +164,7 @@ module _ {limits : Limits} {sizes octets : List ℕ} {r₀ : Reach} {k at : ℕ}
           unfolding through
           passes le A K = record {
             same = P .same ∙ rw (frames-here, tests .1, ← e, le-ltb 0 reason good, ← went, length-f, le-ltb (t .progress .next) n le);
-            set = ap (λ (x : Run). settingsOf (x .board)) ran ∙ run-keeps windowSize _ limits (r .run) _ ∙ P .set;
+            set = ap (λ (x : Run). settingsOf (x .board)) ran ∙ run-keeps _ _ limits (r .run) _ ∙ P .set;
             able = record { sound = A .sound; pooled = A .pooled; used = A .used };
             some = omega (arith, k<);
             room = onward;

@@ -1,5 +1,5 @@
 -- A receiver's state that was written to an image reads back, so a host can keep the image over a restart. Sound states fit an image.
-use mathlib.Core.Bool.{Bool, true, false, _||_}
+use mathlib.Core.Bool.{Bool, true, false}
 use mathlib.Core.Logic.{⊎-elim}
 use mathlib.Core.List.{List, [], _∷_, _++_, append-assoc, append-nil}
 use mathlib.Core.Path.{_≡_, refl}
@@ -16,7 +16,7 @@ use Rattle.octets.proofs.Series.{length-items}
 use Rattle.octets.proofs.Pairs.{pairs-back}
 use Rattle.wire.specs.declared.Version.{Version}
 use Rattle.wire.specs.declared.Version.the-variants.{Draft00, Draft02}
-use Rattle.window.specs.Window.{windowSize}
+use Rattle.window.proofs.Sizes.{window-range}
 use Rattle.row.specs.declared.Phase.{Phase}
 use Rattle.row.specs.declared.Phase.the-variants.{Free, Open, Done, Cancelled, Abandoned}
 use Rattle.row.specs.declared.Row.{Row}
@@ -25,8 +25,8 @@ use Rattle.row.specs.Row.{lengthsOf, soundRow}
 use Rattle.row.proofs.Shaped.{Shaped}
 use Rattle.row.proofs.Sound.{sound-facts}
 use Rattle.rows.specs.declared.State.{State}
-use Rattle.rows.specs.State.{soundRows, sound}
-use Rattle.rows.proofs.Rows.{sound-get}
+use Rattle.rows.specs.State.{windowOf, rowMax, sound}
+use Rattle.rows.proofs.Rows.{sound-parts, sound-window, sound-get}
 use Rattle.images.specs.Receiver.{imageSize, rowSize, phaseOf, isRow, rowOf, areRows, rowsOf, isImage, stateOf, phaseCode, versionOf, versionCode, flag, rowImage, rowsImage, imageOf}
 use Rattle.images.proofs.Rows.{length-row}
 
@@ -38,8 +38,9 @@ pub record RowFits (r : Row) : Type 0 where
 
 -- a state whose numbers fit their octets
 pub record StateFits (s : State) : Type 0 where
-  pub full : length (s .rows) ≡ windowSize
+  pub full : length (s .rows) ≡ rowMax
   pub greatest : s .greatest < 2 ^ 32
+  pub window : windowOf s < 256
   pub rows : (k : ℕ) (z : Row) → k < length (s .rows) → RowFits (getD (s .rows) k z)
 
 phase-back : (p : Phase) → phaseOf (phaseCode p) ≡ p
@@ -118,13 +119,14 @@ length-rows rs each = length-items rowImage rowsImage refl (λ x xs. refl) rowSi
 pub state-back : (s : State) → StateFits s → stateOf (imageOf s) ≡ s
 unfolding stateOf imageOf be32
 state-back s f =
-    let rows : rowsOf windowSize (rowsImage (s .rows)) ≡ s .rows = rw append-nil at (rows-back [] (s .rows) windowSize (f .full) (f .rows)) in
-    rw (flag-back (s .present), number-be32 (s .greatest) (rowsImage (s .rows)) (f .greatest), rows, version-back (s .settings .version))
+    let rows : rowsOf rowMax (rowsImage (s .rows)) ≡ s .rows = rw append-nil at (rows-back [] (s .rows) rowMax (f .full) (f .rows)) in
+    let window : windowOf s % 256 ≡ windowOf s = omega (arith, f .window) in
+    rw (flag-back (s .present), window, number-be32 (s .greatest) (rowsImage (s .rows)) (f .greatest), rows, version-back (s .settings .version))
 
 pub image-of-is : (s : State) → StateFits s → isImage (imageOf s) ≡ true
 unfolding isImage imageOf be32
 image-of-is s f =
-    let rows : areRows windowSize (rowsImage (s .rows)) ≡ true = rw append-nil at (are-rows-back [] (s .rows) windowSize (f .full) (f .rows)) in
+    let rows : areRows rowMax (rowsImage (s .rows)) ≡ true = rw append-nil at (are-rows-back [] (s .rows) rowMax (f .full) (f .rows)) in
     rw (flag-low (s .present), version-low (s .settings .version), rows)
 
 pub length-image : (s : State) → StateFits s → length (imageOf s) ≡ imageSize
@@ -162,13 +164,12 @@ sound-row-fits r z e =
     let f = sound-facts r e in
     record { shaped = z; held = omega (arith, f .few); lengths = λ k h. low-lengths (r .held) (r .lengths) (f .fits) (f .zero₂) k }
 
-pub sound-state-fits : (s : State) → sound s ≡ true → length (s .rows) ≡ windowSize → s .greatest < 2 ^ 32
+pub sound-state-fits : (s : State) → sound s ≡ true → length (s .rows) ≡ rowMax → s .greatest < 2 ^ 32
     → ((k : ℕ) (z : Row) → k < length (s .rows) → Shaped (getD (s .rows) k z)) → StateFits s
-unfolding sound
 sound-state-fits s e full low shaped =
-    let rows = both (s .present || eqb (s .greatest) 0) (soundRows (s .present) (s .rows)) e .1 in
     record {
       full = full;
       greatest = low;
-      rows = λ k z h. sound-row-fits (getD (s .rows) k z) (shaped k z h) (both (soundRow (getD (s .rows) k z)) _ (sound-get (s .present) (s .rows) k z h rows) .0);
+      window = omega (arith, window-range (windowOf s) (sound-window s e));
+      rows = λ k z h. sound-row-fits (getD (s .rows) k z) (shaped k z h) (both (soundRow (getD (s .rows) k z)) _ (sound-get (windowOf s) (s .present) 0 (s .rows) k z h (sound-parts s e .2)) .0);
     }

@@ -17,7 +17,7 @@ use Rattle.row.specs.declared.Phase.{Phase}
 use Rattle.row.specs.declared.Row.{Row}
 use Rattle.row.proofs.Shaped.{Shaped}
 use Rattle.rows.specs.declared.State.{State}
-use Rattle.window.specs.Window.{windowSize}
+use Rattle.rows.specs.State.{windowOf, rowMax}
 use Rattle.images.specs.Receiver.{imageSize, rowSize, phaseOf, isRow, rowOf, areRows, rowsOf, phaseCode, versionCode, flag, rowImage, rowsImage, imageOf}
 
 -- ---- the tests
@@ -92,11 +92,11 @@ rows-image-end = write-end rowImage rowsImage refl (λ x xs. refl)
 
 -- ---- the state
 
-pub state-written : (d d₁ d₂ d₃ : List ℕ) (s : State) (f g : ℕ) → f ≡ flag (s .present) → g ≡ versionCode (s .settings .version) → length d ≡ imageSize → d₁ ≡ put d 0 (f ∷ 0 ∷ g ∷ 0 ∷ [])
-    → d₂ ≡ put d₁ 4 (be32 (s .greatest)) → d₃ ≡ put d₂ 8 (rowsImage (s .rows)) → length (rowsImage (s .rows)) ≡ windowSize * rowSize → d₃ ≡ imageOf s
+pub state-written : (d d₁ d₂ d₃ : List ℕ) (s : State) (f g : ℕ) → f ≡ flag (s .present) → g ≡ versionCode (s .settings .version) → length d ≡ imageSize → d₁ ≡ put d 0 (f ∷ windowOf s % 256 ∷ g ∷ 0 ∷ [])
+    → d₂ ≡ put d₁ 4 (be32 (s .greatest)) → d₃ ≡ put d₂ 8 (rowsImage (s .rows)) → length (rowsImage (s .rows)) ≡ rowMax * rowSize → d₃ ≡ imageOf s
 unfolding imageOf be32
 state-written d d₁ d₂ d₃ s f g ef eg full e₁ e₂ e₃ l =
-    let head : List ℕ = flag (s .present) ∷ 0 ∷ versionCode (s .settings .version) ∷ 0 ∷ [] in
+    let head : List ℕ = flag (s .present) ∷ windowOf s % 256 ∷ versionCode (s .settings .version) ∷ 0 ∷ [] in
     let a : d₁ ≡ put d 0 head = e₁ ∙ rw (ef, eg) in
     let b : d₂ ≡ put d 0 (head ++ be32 (s .greatest)) = e₂ ∙ rw a (put-put d 0 4 head (be32 (s .greatest)) refl (omega arith)) in
     let all : d₃ ≡ put d 0 ((head ++ be32 (s .greatest)) ++ rowsImage (s .rows)) = e₃ ∙ rw b (put-put d 0 8 (head ++ be32 (s .greatest)) (rowsImage (s .rows)) refl (omega arith)) in

@@ -1,6 +1,6 @@
 -- The receiver's state as an image of 3,144 octets.
--- Octet 0 of the image is 1 if G is present, 2 is 1 for draft 00, 1 and 3 are zero, 4 to 7 are G; then 196 octets for each row: phase, whether the
--- final index is known, the final index, how many pieces are held, 64 indexes, 64 lengths of two octets. Numbers are big-endian.
+-- Octet 0 of the image is 1 if G is present, 1 is the window, 2 is 1 for draft 00, 3 is zero, 4 to 7 are G; then 196 octets for each row: phase,
+-- whether the final index is known, the final index, how many pieces are held, 64 indexes, 64 lengths of two octets. Numbers are big-endian.
 use mathlib.Core.Bool.{Bool, true, cond, _&&_}
 use mathlib.Core.List.{List, [], _∷_, _++_}
 use Prim.Native.Nat.{ℕ, zero, suc, _+_, _*_, _/_, _%_}
@@ -9,11 +9,11 @@ use lib.Dec.{eqb, leb}
 use Rattle.octets.specs.Octets.{number, be32, pairs, spread}
 use Rattle.wire.specs.declared.Version.{Version}
 use Rattle.wire.specs.declared.Version.the-variants.{Draft00, Draft02}
-use Rattle.window.specs.Window.{windowSize}
 use Rattle.row.specs.declared.Row.{Row}
 use Rattle.row.specs.declared.Phase.{Phase}
 use Rattle.row.specs.declared.Phase.the-variants.{Free, Open, Done, Cancelled, Abandoned}
 use Rattle.rows.specs.declared.State.{State}
+use Rattle.rows.specs.State.{windowOf, rowMax}
 
 abbrev pub imageSize : ℕ
 imageSize = 3144
@@ -60,15 +60,15 @@ rowsOf (suc n) xs = rowOf xs ∷ rowsOf n (drop rowSize xs)
 -- whether 3,144 octets are the image of a state, sound or not
 unfoldable pub isImage : List ℕ → Bool
 isImage xs =
-    leb (getD xs 0 0) 1 && eqb (getD xs 1 0) 0 && leb (getD xs 2 0) 1 && eqb (getD xs 3 0) 0 && areRows windowSize (drop 8 xs)
+    leb (getD xs 0 0) 1 && leb (getD xs 2 0) 1 && eqb (getD xs 3 0) 0 && areRows rowMax (drop 8 xs)
 
 unfoldable pub stateOf : List ℕ → State
 stateOf xs =
     record {
       present = eqb (getD xs 0 0) 1;
       greatest = number (drop 4 xs);
-      rows = rowsOf windowSize (drop 8 xs);
-      settings = record { version = versionOf (getD xs 2 0) };
+      rows = rowsOf rowMax (drop 8 xs);
+      settings = record { version = versionOf (getD xs 2 0); window = getD xs 1 0 };
     }
 
 -- ---- to octets
@@ -87,7 +87,7 @@ versionCode Draft02 = 0
 abbrev pub flag : Bool → ℕ
 flag b = cond b 1 0
 
--- a sound row holds at most 64 pieces
+-- a sound row holds at most 64 pieces, and a sound state's window is at most 16
 unfoldable pub rowImage : Row → List ℕ
 rowImage r = phaseCode (r .phase) ∷ flag (r .known) ∷ r .last ∷ r .held % 256 ∷ r .indexes ++ spread (r .lengths)
 
@@ -96,4 +96,4 @@ rowsImage [] = []
 rowsImage (r ∷ rs) = rowImage r ++ rowsImage rs
 
 unfoldable pub imageOf : State → List ℕ
-imageOf s = flag (s .present) ∷ 0 ∷ versionCode (s .settings .version) ∷ 0 ∷ be32 (s .greatest) ++ rowsImage (s .rows)
+imageOf s = flag (s .present) ∷ windowOf s % 256 ∷ versionCode (s .settings .version) ∷ 0 ∷ be32 (s .greatest) ++ rowsImage (s .rows)

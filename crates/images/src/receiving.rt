@@ -9,7 +9,7 @@ ghost use mathlib.Core.List.{map};
 ghost use Prim.Native.Nat.{_+_, _*_, _≤_};
 ghost use lib.ListN.{length, take, drop};
 ghost use Rattle.octets.specs.Octets.{pairs, put};
-ghost use Rattle.window.specs.Window.{windowSize};
+ghost use Rattle.rows.specs.State.{rowMax};
 ghost use Rattle.images.specs.Receiver as Spec;
 ghost use Rattle.images.specs.Receiver.{rowSize};
 
@@ -143,7 +143,7 @@ fn row_of(image: &[u8], at: usize) -> Row
 }
 
 fn are_rows(image: &[u8; 3144]) -> bool
-    ensures { λ r. ⌜ r ≡ Spec.areRows windowSize (drop 8 (now (image .entry))) ⌝ }
+    ensures { λ r. ⌜ r ≡ Spec.areRows rowMax (drop 8 (now (image .entry))) ⌝ }
 {
     let mut good = true;
     let mut k = 0;
@@ -158,7 +158,7 @@ fn are_rows(image: &[u8; 3144]) -> bool
 pub fn is_image(image: &[u8; 3144]) -> bool
     ensures { λ r. ⌜ r ≡ Spec.isImage (now (image .entry)) ⌝ }
 {
-    let head = (image[0] <= 1) & (image[1] == 0) & (image[2] <= 1) & (image[3] == 0);
+    let head = (image[0] <= 1) & (image[2] <= 1) & (image[3] == 0);
     head & are_rows(image)
 }
 
@@ -172,7 +172,10 @@ pub fn state_of(image: &[u8; 3144]) -> State
         present: image[0] == 1,
         greatest: octets::number_at(image, 4),
         rows: [free; 16],
-        settings: Settings { version },
+        settings: Settings {
+            version,
+            window: octets::octet(image[1]),
+        },
     };
     let mut k = 0;
     while k < 16 {
@@ -196,7 +199,7 @@ fn put_row(image: &mut [u8], at: usize, row: Row)
 }
 
 fn put_rows(image: &mut [u8; 3144], rows: [Row; 16])
-    ensures { λ _. ⌜ (now (image .exit) ≡ put (now (image .entry)) 8 (Spec.rowsImage rows)) × (length (Spec.rowsImage rows) ≡ windowSize * rowSize) ⌝ }
+    ensures { λ _. ⌜ (now (image .exit) ≡ put (now (image .entry)) 8 (Spec.rowsImage rows)) × (length (Spec.rowsImage rows) ≡ rowMax * rowSize) ⌝ }
 {
     let mut k = 0;
     while k < 16 {
@@ -213,8 +216,9 @@ pub fn put_state(image: &mut [u8; 3144], state: State)
     let settings = state.settings;
     let version = settings.version;
     let draft = version_code(version);
+    let window = (settings.window % 256) as u8;
     let rows = state.rows;
-    octets::put_four(image, 0, [present, 0, draft, 0]);
+    octets::put_four(image, 0, [present, window, draft, 0]);
     octets::put_number(image, 4, state.greatest);
     put_rows(image, rows);
 }

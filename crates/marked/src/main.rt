@@ -1,9 +1,12 @@
-// The frames of document 01's marked cases, M1 to M12, taken by a fresh receiver from place 0; M5 takes two frames in a row.
+// The frames of document 01's marked cases taken by a fresh receiver from place 0: M1 to M12 by one as a plain start leaves it; M5 takes two
+// frames in a row. M13 by one of window 16, and by one of the plain window, of which 9 behind is outside: first 3 is the greatest number,
+// then comes 4,294,967,290.
 use libc::STDOUT_FILENO;
 use receiver::Answer;
 use receiver::Origin;
 use receiver::Refusal;
 use receiver::State;
+use wire::Version;
 
 fn text(s: &[u8]) {
     io::write_all(STDOUT_FILENO, s);
@@ -68,15 +71,29 @@ fn show(answer: Answer, output: &[u8]) {
     text(b"\n");
 }
 
-fn take(name: &[u8], state: State, frame: &[u8]) -> State {
-    let mut pool = [0u8; 65536];
+fn take_with(name: &[u8], state: State, pool: &mut [u8], frame: &[u8]) -> State {
     let mut output = [0u8; 4096];
-    let r = receiver::receive(state, &mut pool, frame, 0, &mut output);
+    let r = receiver::receive(state, pool, frame, 0, &mut output);
     text(name);
     let answer = r.answer;
     show(answer, &output);
     let next = r.state;
     next
+}
+
+fn take(name: &[u8], state: State, frame: &[u8]) -> State {
+    let mut pool = [0u8; 32768];
+    take_with(name, state, &mut pool, frame)
+}
+
+fn behind(state: State, pool: &mut [u8]) {
+    let greatest = take_with(b"M13", state, pool, b"\x05\x00\x00\x04\x00\x00\x00\x03");
+    take_with(
+        b"M13",
+        greatest,
+        pool,
+        b"\x04\x00\x00\x09\xff\xff\xff\xfa\x00\x00\x00\x00\x41",
+    );
 }
 
 fn main() {
@@ -95,4 +112,10 @@ fn main() {
     take(b"M10", fresh, b"\x02\x80\x00\x01\x02");
     take(b"M11", fresh, b"\x05\x00\x00\x03\x00\x00\x00");
     take(b"M12", fresh, b"\x00\x02\x00\x00\x00");
+    let sixteen = receiver::start_as(Version::Draft02, 16);
+    let wide = sixteen.state;
+    let mut pool = [0u8; 65536];
+    behind(wide, &mut pool);
+    let mut small = [0u8; 32768];
+    behind(fresh, &mut small);
 }

@@ -34,13 +34,16 @@ module _ (pool : List ℕ) (r : ℕ) where
   unfolding putCell
   cell-back cell l = rw width (put-back base bundleMax pool cell l)
 
+pub length-cell-in : (pool : List ℕ) (r : ℕ) → r * bundleMax + bundleMax ≤ length pool → length (cellAt pool r) ≡ bundleMax
+unfolding cellAt
+length-cell-in pool r within = rw (length-take, length-drop) (omega (arith, within))
+
 module _ (w : ℕ) (pool : List ℕ) (full : length pool ≡ w * bundleMax) (r : ℕ) (r< : r < w) where
   pub cell-within : r * bundleMax + bundleMax ≤ length pool
   cell-within = omega (arith, full)
 
   pub length-cell : length (cellAt pool r) ≡ bundleMax
-  unfolding cellAt
-  length-cell = rw (length-take, length-drop) (omega (arith, cell-within))
+  length-cell = length-cell-in pool r cell-within
 
   pub length-put-cell : (cell : List ℕ) → length cell ≡ bundleMax → length (putCell pool r cell) ≡ w * bundleMax
   unfolding putCell

@@ -26,7 +26,7 @@ use Rattle.wire.proofs.Items.{Next}
 use Rattle.wire.proofs.Items as Items
 use Rattle.wire.proofs.Places.{taken, resume}
 use Rattle.wire.proofs.Spans.{Located, located, sized}
-use Rattle.window.specs.Window.{windowSize, sixteen}
+use Rattle.window.specs.Window.{Window}
 use Rattle.pieces.specs.declared.Order.{Order}
 use Rattle.pieces.specs.Pieces.{bundleMax}
 use Rattle.row.specs.Row.{emptyRow, soundRow}
@@ -38,6 +38,8 @@ use Rattle.row.specs.declared.Phase.the-variants.{Free}
 use Rattle.row.specs.declared.Row.{Row}
 use Rattle.reassembly.specs.declared.Taken.{Taken}
 use Rattle.row.proofs.Shaped.{Shaped}
+use Rattle.rows.specs.State.{windowOf}
+use Rattle.rows.proofs.Rows.{sound-window}
 use Rattle.rows.specs.Message.{orderOf, Board, Outcome, handedOf, cellAt, step, messagesFrom}
 use Rattle.messages.specs.Run.{Run, admits, rowStep, writtenAt, Lands, size, listed, numbered, progressed, advanced, roomy, run, runFrom, Able}
 use Rattle.rows.specs.Visit.{visitOf}
@@ -52,6 +54,10 @@ use Rattle.messages.proofs.Visits.{rowsFor, landed, visited, outcome, l
 abbrev pub versionOf : Run → Version
 versionOf p = p .board .state .settings .version
 
+-- and its window
+abbrev pub widthOf : Run → ℕ
+widthOf p = windowOf (p .board .state)
+
 -- the messages that the loop has yet to treat
 abbrev pub left : Version → List ℕ → Run → List Item
 left u frame p = items (scanAt (read u) frame (p .progress .next))
@@ -62,9 +68,9 @@ goesOn limits frame p = ltb (p .progress .next) (length frame) && roomy (p .prog
 
 -- p is how far the run over a frame from p₀ on came
 pub record Going (limits : Limits) (frame : List ℕ) (p₀ p : Run) : Type 0 where
-  pub same : runFrom limits p₀ frame ≡ run windowSize (orderOf (versionOf p₀)) limits p (left (versionOf p₀) frame p)
+  pub same : runFrom limits p₀ frame ≡ run (widthOf p₀) (orderOf (versionOf p₀)) limits p (left (versionOf p₀) frame p)
   pub here : scanAt (read (versionOf p₀)) frame (p .progress .next) ≡ row (left (versionOf p₀) frame p)
-  pub ready : Sound windowSize (p .board)
+  pub ready : Sound (widthOf p₀) (p .board)
   pub low : p .board .state .greatest < 2 ^ 32
   pub used : p .progress .used ≤ length (p₀ .output)
   pub output : length (p .output) ≡ length (p₀ .output)
@@ -137,6 +143,12 @@ module _ {limits : Limits} {frame : List ℕ} {p₀ p : Run} (T : Turn limits fr
   abbrev u : Version
   u = versionOf p₀
 
+  abbrev w : ℕ
+  w = widthOf p₀
+
+  win : Window w
+  win = rw (← G .ready .window) (sound-window (p .board .state) (G .ready .sound))
+
   abbrev m : Span
   m = T .span
 
@@ -150,10 +162,10 @@ module _ {limits : Limits} {frame : List ℕ} {p₀ p : Run} (T : Turn limits fr
   content = take (m .end - m .start) (drop (m .start) frame)
 
   abbrev pub v : Visit
-  v = visitOf windowSize (b .state .present) (b .state .greatest) (message (m .kind) content)
+  v = visitOf w (b .state .present) (b .state .greatest) (message (m .kind) content)
 
   abbrev o : Rules.Outcome
-  o = outcome windowSize (orderOf u) b v content
+  o = outcome w (orderOf u) b v content
 
   tests : (ltb at (length frame) ≡ true) × (roomy (p .progress) limits (length (p .output)) ≡ true)
   tests = both (ltb at (length frame)) (roomy (p .progress) limits (length (p .output))) (T .test)
@@ -188,7 +200,7 @@ module _ {limits : Limits} {frame : List ℕ} {p₀ p : Run} (T : Turn limits fr
   passed e =
       let r = items-row (follows .rest) (follows .then) in
       record {
-        same = rw r (G .same ∙ rw (follows .first, tests .1, skip-step windowSize (orderOf u) b (m .kind) content e));
+        same = rw r (G .same ∙ rw (follows .first, tests .1, skip-step w (orderOf u) b (m .kind) content e));
         here = rw r (follows .then);
         ready = G .ready;
         low = G .low;
@@ -198,11 +210,11 @@ module _ {limits : Limits} {frame : List ℕ} {p₀ p : Run} (T : Turn limits fr
         numbers = G .numbers;
       }
 
-  pub visits : Visiting windowSize (b .state .present) (b .state .greatest) v
-  visits = visiting windowSize sixteen (b .state .present) (b .state .greatest) (message (m .kind) content)
+  pub visits : Visiting w (b .state .present) (b .state .greatest) v
+  visits = visiting w win (b .state .present) (b .state .greatest) (message (m .kind) content)
 
-  pub slot< : v .slot < windowSize
-  slot< = visit-slot windowSize sixteen (b .state .present) (b .state .greatest) visits
+  pub slot< : v .slot < w
+  slot< = visit-slot w win (b .state .present) (b .state .greatest) visits
 
   pub length-content : length content ≡ m .end - m .start
   length-content = rw (length-take, length-drop) (omega (arith, place .ordered, place .within))
@@ -210,23 +222,23 @@ module _ {limits : Limits} {frame : List ℕ} {p₀ p : Run} (T : Turn limits fr
   pub fits : fitting (m .kind) (length content) ≡ true
   fits = rw length-content (place .fits)
 
-  pub found-sound : soundRow (visited windowSize (orderOf u) b v) ≡ true
-  found-sound = visited-sound windowSize sixteen (orderOf u) b (G .ready) v slot<
+  pub found-sound : soundRow (visited w (orderOf u) b v) ≡ true
+  found-sound = visited-sound w win (orderOf u) b (G .ready) v slot<
 
   pub cell-long : length (cellAt (b .pool) (v .slot)) ≡ bundleMax
-  cell-long = cell-full windowSize sixteen (orderOf u) b (G .ready) v slot<
+  cell-long = cell-full w win (orderOf u) b (G .ready) v slot<
 
   module _ (small : length frame ≤ bundleMax) where
     pub admit : admits (v .act) (length content) ≡ true
-    admit = visit-admits windowSize sixteen (b .state .present) (b .state .greatest) (m .kind) content fits (omega (arith, length-content, place .ordered, place .within))
+    admit = visit-admits w win (b .state .present) (b .state .greatest) (m .kind) content fits (omega (arith, length-content, place .ordered, place .within))
 
-    module _ (shaped : Shaped (visited windowSize (orderOf u) b v)) where
+    module _ (shaped : Shaped (visited w (orderOf u) b v)) where
       bundle-fits : (x : List ℕ) → o .bundle ≡ some x → length x ≤ bundleMax
-      bundle-fits = row-fits (orderOf u) content (visited windowSize (orderOf u) b v) (cellAt (b .pool) (v .slot)) (v .act) admit found-sound shaped cell-long
+      bundle-fits = row-fits (orderOf u) content (visited w (orderOf u) b v) (cellAt (b .pool) (v .slot)) (v .act) admit found-sound shaped cell-long
 
       module _ (low : v .greatest < 2 ^ 32) where
         abbrev done : Outcome
-        done = landed windowSize (orderOf u) b v o
+        done = landed w (orderOf u) b v o
 
         abbrev next : Run
         next = record {
@@ -237,10 +249,10 @@ module _ {limits : Limits} {frame : List ℕ} {p₀ p : Run} (T : Turn limits fr
           progress = progressed (p .progress) (deliveryOf (o .bundle)) (m .end) (v .origin);
         }
 
-        stepped : done ≡ step windowSize (orderOf u) b (message (m .kind) content)
-        stepped = landed-step windowSize sixteen (orderOf u) b (G .ready .rows) (G .ready .pool) (G .low) (m .kind) content low
+        stepped : done ≡ step w (orderOf u) b (message (m .kind) content)
+        stepped = landed-step w win (orderOf u) b (G .ready .rows) (G .ready .pool) (G .low) (m .kind) content low
 
-        same : runFrom limits p₀ frame ≡ run windowSize (orderOf u) limits next (follows .rest)
+        same : runFrom limits p₀ frame ≡ run w (orderOf u) limits next (follows .rest)
         unfolding run
         same = G .same ∙ rw (follows .first, tests .1, ← stepped, advanced-by p (done .board) (m .end) (v .origin) (o .bundle))
 
@@ -253,7 +265,7 @@ module _ {limits : Limits} {frame : List ℕ} {p₀ p : Run} (T : Turn limits fr
             record {
               same = rw (e, r) same;
               here = rw (e, r) (follows .then);
-              ready = landed-sound windowSize sixteen (orderOf u) b (G .ready) content visits shaped;
+              ready = landed-sound w win (orderOf u) b (G .ready) content visits shaped;
               low = low;
               output = written-length (p .progress .used) (o .bundle) (p .output) room′ ∙ G .output;
               used = progressed-used (p .progress) (o .bundle) (m .end) (v .origin) (length (p₀ .output)) (G .used) λ x q. omega (arith, room′ x q, G .output);
@@ -262,7 +274,7 @@ module _ {limits : Limits} {frame : List ℕ} {p₀ p : Run} (T : Turn limits fr
             }
 
     -- what is handed out is no longer than a bundle
-    pub handed-fits : (x : Visit) → x ≡ v → (r : Row) → r ≡ visited windowSize (orderOf u) b v → Shaped r
+    pub handed-fits : (x : Visit) → x ≡ v → (r : Row) → r ≡ visited w (orderOf u) b v → Shaped r
         → (t : Taken) (pool output : List ℕ) → Lands (rowStep (orderOf u) (x .act) content r (cellAt (b .pool) (x .slot))) (x .slot) (b .pool) (p .progress .used) (p .output) t pool output
         → size (t .delivery) ≤ bundleMax
     handed-fits x ex r er z t pool output a = rw (a .delivery) (size-fits _ bundleMax (λ y q. bundle-fits (subst Shaped er z) y (rw (er, ex) at q)))
@@ -270,7 +282,7 @@ module _ {limits : Limits} {frame : List ℕ} {p₀ p : Run} (T : Turn limits fr
     -- what the code makes of a turn: rows, row, pool, output and progress as they are then
     abbrev Turned : Visit → Type 0
     Turned x =
-        (rows : List Row) → rows ≡ rowsFor windowSize (orderOf u) b x
+        (rows : List Row) → rows ≡ rowsFor w (orderOf u) b x
         → (r : Row) → r ≡ getD rows (x .slot) (emptyRow Free) → Shaped r → x .greatest < 2 ^ 32
         → (t : Taken) (pool output : List ℕ) → Lands (rowStep (orderOf u) (x .act) content r (cellAt (b .pool) (x .slot))) (x .slot) (b .pool) (p .progress .used) (p .output) t pool output
         → (lengths : List ℕ) → lengths ≡ listed (p .progress .count) (t .delivery) (p .lengths)
@@ -287,8 +299,8 @@ module _ {limits : Limits} {frame : List ℕ} {p₀ p : Run} (T : Turn limits fr
 
     turned-here : Turned v
     turned-here rows er r ef z low t pool output ans lengths el numbers en progress ep =
-        let re : r ≡ visited windowSize (orderOf u) b v = ef ∙ rw er in
-        let shaped : Shaped (visited windowSize (orderOf u) b v) = subst Shaped re z in
+        let re : r ≡ visited w (orderOf u) b v = ef ∙ rw er in
+        let shaped : Shaped (visited w (orderOf u) b v) = subst Shaped re z in
         let a : Lands o (v .slot) (b .pool) (p .progress .used) (p .output) t pool output = rw re at ans in
         let came : progress ≡ progressed (p .progress) (deliveryOf (o .bundle)) (m .end) (v .origin) = ep ∙ rw (a .delivery) in
         let long : lengths ≡ listed (p .progress .count) (deliveryOf (o .bundle)) (p .lengths) = el ∙ rw (a .delivery) in
@@ -299,7 +311,7 @@ module _ {limits : Limits} {frame : List ℕ} {p₀ p : Run} (T : Turn limits fr
     turned x e = subst Turned (sym e) turned-here
 
 -- the loop begins
-pub begins : (limits : Limits) (frame : List ℕ) (p : Run) → Able (p .board .state) (p .board .pool) (p .output) (p .progress) → checked (read (versionOf p)) frame (p .progress .next) ≡ Accepted → length (p .board .state .rows) ≡ windowSize → p .board .state .greatest < 2 ^ 32 → Going limits frame p p
+pub begins : (limits : Limits) (frame : List ℕ) (p : Run) → Able (p .board .state) (p .board .pool) (p .output) (p .progress) → checked (read (versionOf p)) frame (p .progress .next) ≡ Accepted → widthOf p ≤ length (p .board .state .rows) → p .board .state .greatest < 2 ^ 32 → Going limits frame p p
 unfolding messagesFrom
 begins limits frame p A accepted rows low =
     let u : Version = versionOf p in
@@ -308,21 +320,21 @@ begins limits frame p A accepted rows low =
     let here : scanAt (read u) frame place ≡ row (from place (t .items)) = resume (read u) (sized u) frame place (t .items) (t .whole) (t .good-place) in
     let left′ : items (scanAt (read u) frame place) ≡ from place (t .items) = items-row (from place (t .items)) here in
     let all : items (scanned (read u) frame) ≡ t .items = items-row (t .items) (t .whole) in
-    record { same = rw (all, left′); here = rw left′ here; ready = record { sound = A .sound; rows = rows; pool = A .pooled }; low = low; used = A .used; output = refl; lengths = refl; numbers = refl }
+    record { same = rw (all, left′); here = rw left′ here; ready = record { window = refl; sound = A .sound; rows = rows; pool = A .pooled }; low = low; used = A .used; output = refl; lengths = refl; numbers = refl }
 
 -- the loop ends: no message is left, or the limits are reached
-stops : (order : Order) (limits : Limits) (p : Run) (is : List Item) → roomy (p .progress) limits (length (p .output)) ≡ false → run windowSize order limits p is ≡ p
+stops : (w : ℕ) (order : Order) (limits : Limits) (p : Run) (is : List Item) → roomy (p .progress) limits (length (p .output)) ≡ false → run w order limits p is ≡ p
 unfolding run
-stops order limits p [] e = refl
-stops order limits p (i ∷ is) e = rw e
+stops w order limits p [] e = refl
+stops w order limits p (i ∷ is) e = rw e
 
 module _ {limits : Limits} {frame : List ℕ} {p₀ p : Run} (G : Going limits frame p₀ p) where
   pub ends : goesOn limits frame p ≡ false → p ≡ runFrom limits p₀ frame
   unfolding run
   ends test = sym (G .same ∙ go (bool (ltb (p .progress .next) (length frame))))
     where
-      go : (ltb (p .progress .next) (length frame) ≡ true) ⊎ (ltb (p .progress .next) (length frame) ≡ false) → run windowSize (orderOf (versionOf p₀)) limits p (left (versionOf p₀) frame p) ≡ p
-      go (inl e) = stops (orderOf (versionOf p₀)) limits p (left (versionOf p₀) frame p) (rw e at test)
+      go : (ltb (p .progress .next) (length frame) ≡ true) ⊎ (ltb (p .progress .next) (length frame) ≡ false) → run (widthOf p₀) (orderOf (versionOf p₀)) limits p (left (versionOf p₀) frame p) ≡ p
+      go (inl e) = stops (widthOf p₀) (orderOf (versionOf p₀)) limits p (left (versionOf p₀) frame p) (rw e at test)
       go (inr e) = rw (Items.finished (versionOf p₀) frame (p .progress .next) (left (versionOf p₀) frame p) (G .here) (ltb-false (p .progress .next) (length frame) e))
 
   -- a message is left, and no message of an accepted frame is bad

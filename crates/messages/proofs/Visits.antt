@@ -1,21 +1,22 @@
 -- A message as the code takes it, where it goes first and its row then, is the step of the definition; and it leaves a board sound.
-use mathlib.Core.Bool.{Bool, true, false, cond, _||_}
+use mathlib.Core.Bool.{Bool, true, false, cond, _&&_, _||_}
 use mathlib.Core.List.{List}
 use mathlib.Core.Option.{Option, none, some}
 use mathlib.Core.Path.{_≡_, refl, _∙_}
-use Prim.Native.Nat.{ℕ, _*_, _^_, _≤_, _<_}
+use Prim.Native.Nat.{ℕ, _+_, _*_, _^_, _≤_, _<_}
 use native.Mathlib.Omega.{arith}
 use lib.Dec.{eqb, ltb}
 use lib.ListN.{length, getD, drop, set, length-set}
 use lib.Seq.{set-getD}
 use borrow.Author.Tests.{leb-true, lt-ltb, le-ltb, le-leb}
 use Rattle.octets.specs.Octets.{number}
-use Rattle.octets.proofs.Flags.{and, both, cond-elim}
+use Rattle.octets.proofs.Flags.{both, or-left, cond-elim}
 use Rattle.wire.specs.Layout.{message, fitting}
 use Rattle.wire.specs.Message.{Message, skipped, bundle, segment, last, cancel}
 use Rattle.wire.specs.declared.Kind.{Kind}
 use Rattle.wire.specs.declared.Kind.the-variants as Kinds
 use Rattle.window.specs.Window.{Window, standingOf}
+use Rattle.window.proofs.Sizes.{is-window}
 use Rattle.window.specs.declared.Standing.{Standing}
 use Rattle.window.specs.declared.Standing.the-variants.{Inside, New, Outside}
 use Rattle.window.proofs.Entering.{entered, inside-present, row-below}
@@ -32,14 +33,14 @@ use Rattle.reassembly.proofs.Kept.{piece-sound, piece-cell, piece-bundle-fits, 
 use Rattle.rows.specs.Message.{Board, Outcome, cellAt, putCell, handedOf, freedFrom, moved, inRow, treatTransfer, step}
 use Rattle.rows.specs.Visit.{stay, transferVisit, visitOf}
 use Rattle.messages.specs.Run.{admits, rowStep}
-use Rattle.rows.specs.State.{soundRows, sound}
+use Rattle.rows.specs.State.{windowOf, soundFrom, sound}
 use Rattle.rows.specs.declared.Act.{Act}
 use Rattle.rows.specs.declared.Act.the-variants.{Pass, HandOut, Piece, Cancel}
 use Rattle.rows.specs.declared.Origin.the-variants.{Whole}
 use Rattle.rows.specs.declared.State.{State}
 use Rattle.rows.specs.declared.Visit.{Visit}
 use Rattle.messages.proofs.Cells.{length-cell, length-put-cell, same-cell}
-use Rattle.rows.proofs.Rows.{sound-get, sound-set, sound-in, sound-present, sound-freed, length-freed, own-opened}
+use Rattle.rows.proofs.Rows.{sound-parts, sound-whole, sound-get, sound-set, sound-in, free-in, sound-present, sound-freed, length-freed, own-opened}
 
 -- the rows once those of skipped numbers are freed
 abbrev pub cleared : ℕ → ℕ → ℕ → List Row → List Row
@@ -83,7 +84,7 @@ module _ (w : ℕ) (order : Order) (b : Board) where
   abbrev pub outcome : Visit → List ℕ → Rules.Outcome
   outcome v content = rowStep order (v .act) content (visited v) (cellAt (b .pool) (v .slot))
 
-module _ (w : ℕ) (win : Window w) (order : Order) (b : Board) (full : length (b .state .rows) ≡ w) (pooled : length (b .pool) ≡ w * bundleMax) where
+module _ (w : ℕ) (win : Window w) (order : Order) (b : Board) (full : w ≤ length (b .state .rows)) (pooled : length (b .pool) ≡ w * bundleMax) where
   abbrev s : State
   s = b .state
 
@@ -180,53 +181,55 @@ module _ (w : ℕ) (win : Window w) (present : Bool) (g : ℕ) where
   visit-admits Kinds.End content f l = admits-transfer (length content) (Piece true) (number content) (standingOf w present g (number content)) f
   visit-admits Kinds.Cancel content f l = admits-transfer (length content) Cancel (number content) (standingOf w present g (number content)) refl
 
--- a board with a sound state of w rows, and a pool of their size
+-- a board with a sound state of window w, and a pool of its size
 pub record Sound (w : ℕ) (b : Board) : Type 0 where
+  pub window : windowOf (b .state) ≡ w
   pub sound : sound (b .state) ≡ true
-  pub rows : length (b .state .rows) ≡ w
+  pub rows : w ≤ length (b .state .rows)
   pub pool : length (b .pool) ≡ w * bundleMax
 
 module _ (w : ℕ) (win : Window w) (order : Order) (b : Board) (R : Sound w b) where
-  rows-sound : soundRows (b .state .present) (b .state .rows) ≡ true
-  unfolding sound
-  rows-sound = both (b .state .present || eqb (b .state .greatest) 0) (soundRows (b .state .present) (b .state .rows)) (R .sound) .1
+  rows-sound : soundFrom w 0 (b .state .present) (b .state .rows) ≡ true
+  rows-sound = rw (← R .window) (sound-parts (b .state) (R .sound) .2)
 
-  rows-for-sound : (v : Visit) → soundRows true (rowsFor w order b v) ≡ true
+  rows-for-sound : (v : Visit) → soundFrom w 0 true (rowsFor w order b v) ≡ true
   rows-for-sound v =
-      let s = sound-present (b .state .present) (b .state .rows) rows-sound in
-      let c = cond-elim (λ (rows : List Row). soundRows true rows ≡ true) (ltb 1 (v .entered)) (λ _. sound-freed w 0 (b .state .greatest) (v .entered) (b .state .rows) s) (λ _. s) in
-      cond-elim (λ (rows : List Row). soundRows true rows ≡ true) (ltb 0 (v .entered)) (λ _. sound-set true _ (v .slot) (emptyRow Free) c (sound-in _ (empty-sound Free refl))) (λ _. c)
+      let s = sound-present w 0 (b .state .present) (b .state .rows) rows-sound in
+      let c = cond-elim (λ (rows : List Row). soundFrom w 0 true rows ≡ true) (ltb 1 (v .entered)) (λ _. sound-freed w 0 (b .state .greatest) (v .entered) (b .state .rows) s) (λ _. s) in
+      cond-elim (λ (rows : List Row). soundFrom w 0 true rows ≡ true) (ltb 0 (v .entered)) (λ _. sound-set w true 0 _ (v .slot) (emptyRow Free) c (free-in (ltb (0 + v .slot) w))) (λ _. c)
 
-  pub rows-for-full : (v : Visit) → length (rowsFor w order b v) ≡ w
+  pub rows-for-full : (v : Visit) → length (rowsFor w order b v) ≡ length (b .state .rows)
   rows-for-full v =
-      let c = cond-elim (λ (rows : List Row). length rows ≡ w) (ltb 1 (v .entered)) (λ _. length-freed w 0 (b .state .greatest) (v .entered) (b .state .rows) ∙ R .rows) (λ _. R .rows) in
-      cond-elim (λ (rows : List Row). length rows ≡ w) (ltb 0 (v .entered)) (λ _. length-set (cleared w (b .state .greatest) (v .entered) (b .state .rows)) (v .slot) (emptyRow Free) ∙ c) (λ _. c)
+      let n = length (b .state .rows) in
+      let c = cond-elim (λ (rows : List Row). length rows ≡ n) (ltb 1 (v .entered)) (λ _. length-freed w 0 (b .state .greatest) (v .entered) (b .state .rows)) (λ _. refl) in
+      cond-elim (λ (rows : List Row). length rows ≡ n) (ltb 0 (v .entered)) (λ _. length-set (cleared w (b .state .greatest) (v .entered) (b .state .rows)) (v .slot) (emptyRow Free) ∙ c) (λ _. c)
 
   -- the row that a visit finds is sound
   pub visited-sound : (v : Visit) → v .slot < w → soundRow (visited w order b v) ≡ true
-  visited-sound v h = both _ true (sound-get true (rowsFor w order b v) (v .slot) (emptyRow Free) (omega (arith, rows-for-full v)) (rows-for-sound v)) .0
+  visited-sound v h = both _ _ (sound-get w true 0 (rowsFor w order b v) (v .slot) (emptyRow Free) (omega (arith, rows-for-full v, R .rows)) (rows-for-sound v)) .0
 
   pub cell-full : (v : Visit) → v .slot < w → length (cellAt (b .pool) (v .slot)) ≡ bundleMax
   cell-full v h = length-cell w (b .pool) (R .pool) (v .slot) h
 
   module _ (content : List ℕ) where
     state-sound : {v : Visit} → Visiting w (b .state .present) (b .state .greatest) v → Shaped (visited w order b v) → sound (landed w order b v (outcome w order b v content) .board .state) ≡ true
-    unfolding sound
     state-sound (stays act h) z =
         let s : State = b .state in
-        let r = sound-get (s .present) (s .rows) 0 (emptyRow Free) (omega (arith, R .rows, row-below w win 0)) rows-sound in
-        and (s .present || eqb (s .greatest) 0) _ (both (s .present || eqb (s .greatest) 0) (soundRows (s .present) (s .rows)) (R .sound) .0)
-        (sound-set (s .present) (s .rows) 0 _ rows-sound (rw (h order content (getD (s .rows) 0 (emptyRow Free)) (cellAt (b .pool) 0)) r))
+        let p = sound-parts s (R .sound) in
+        let r = sound-get w (s .present) 0 (s .rows) 0 (emptyRow Free) (omega (arith, R .rows, row-below w win 0)) rows-sound in
+        sound-whole _ (p .0) (p .1) (rw (R .window) (sound-set w (s .present) 0 (s .rows) 0 _ rows-sound (rw (h order content (getD (s .rows) 0 (emptyRow Free)) (cellAt (b .pool) 0)) r)))
     state-sound (goes v h p) z =
-        rw p (sound-set true (rowsFor w order b v) (v .slot) _ (rows-for-sound v)
-        (sound-in _ (row-sound order content (visited w order b v) (cellAt (b .pool) (v .slot)) (v .act) (visited-sound v h) z)))
+        sound-whole _ (rw (R .window) (is-window w win)) (or-left (v .present) _ p) (rw (p, R .window)
+        (sound-set w true 0 (rowsFor w order b v) (v .slot) _ (rows-for-sound v)
+        (sound-in _ _ (row-sound order content (visited w order b v) (cellAt (b .pool) (v .slot)) (v .act) (visited-sound v h) z) (lt-ltb (0 + v .slot) w (omega (arith, h))))))
 
     pub landed-sound : {v : Visit} → Visiting w (b .state .present) (b .state .greatest) v → Shaped (visited w order b v) → Sound w (landed w order b v (outcome w order b v content) .board)
     landed-sound {v} g z =
         let h = visit-slot w win (b .state .present) (b .state .greatest) g in
         let o = outcome w order b v content in
         record {
+          window = R .window;
           sound = state-sound g z;
-          rows = length-set (rowsFor w order b v) (v .slot) (o .row) ∙ rows-for-full v;
+          rows = rw (length-set (rowsFor w order b v) (v .slot) (o .row), rows-for-full v) (R .rows);
           pool = length-put-cell w (b .pool) (R .pool) (v .slot) h (o .cell) (row-cell order content (visited w order b v) (cellAt (b .pool) (v .slot)) (v .act) (cell-full v h));
         }

@@ -20,7 +20,6 @@ ghost use lib.ListN.{length, set};
 ghost use lib.Dec.{ltb};
 ghost use Rattle.wire.specs.Frame.{checked, frameMax};
 ghost use Rattle.wire.specs.declared.Checked.the-variants as Frame;
-ghost use Rattle.window.specs.Window.{windowSize};
 ghost use Rattle.pieces.specs.Pieces.{bundleMax};
 ghost use Rattle.row.specs.Row.{soundRow};
 ghost use Rattle.reassembly.specs.Rules.{Answers};
@@ -92,7 +91,7 @@ fn cell_turn(
     output: &mut [u8],
     used: usize,
 ) -> Taken
-    requires { ⌜ (soundRow row ≡ true) × (Loop.admits (v .act) (length (now content)) ≡ true) × (v .slot < windowSize) × (length (now pool) ≡ windowSize * bundleMax) × (used + bundleMax ≤ length (now output)) ⌝ }
+    requires { ⌜ (soundRow row ≡ true) × (Loop.admits (v .act) (length (now content)) ≡ true) × (v .slot * bundleMax + bundleMax ≤ length (now pool)) × (used + bundleMax ≤ length (now output)) ⌝ }
     ensures { λ r. ⌜ (Loop.Lands (Loop.rowStep (orderOf version) (v .act) (now (content .entry)) row (cellAt (now (pool .entry)) (v .slot))) (v .slot) (now (pool .entry)) used (now (output .entry)) r (now (pool .exit)) (now (output .exit))) × (length (row .indexes) ≡ 64) × (length (row .lengths) ≡ 64) ⌝ }
 {
     let base = v.slot * BUNDLE_MAX;
@@ -252,6 +251,7 @@ pub fn run(
 {
     let settings = state.settings;
     let version = settings.version;
+    let window = settings.window;
     let mut present = state.present;
     let mut greatest = state.greatest;
     let mut rows = state.rows;
@@ -268,9 +268,9 @@ pub fn run(
             continue;
         }
         let content = &frame[start..end];
-        let v = rows::visit_of(present, greatest, kind, content);
+        let v = rows::visit_of(window, present, greatest, kind, content);
         if 1 < v.entered {
-            rows = rows::freed(rows, greatest, v.entered);
+            rows = rows::freed(rows, window, greatest, v.entered);
         }
         present = v.present;
         greatest = v.greatest;

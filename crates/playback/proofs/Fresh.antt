@@ -13,7 +13,7 @@ use Rattle.octets.specs.Octets.{put}
 use Rattle.octets.proofs.Flags.{cond-elim}
 use Rattle.octets.proofs.Put.{read-back}
 use Rattle.wire.proofs.Spans.{sized}
-use Rattle.window.specs.Window.{sixteen, windowSize}
+use Rattle.window.specs.Window.{sixteen}
 use Rattle.pieces.specs.declared.Order.the-variants.{Rising}
 use Rattle.row.specs.declared.Phase.the-variants.{Free}
 use Rattle.row.specs.Row.{emptyRow}
@@ -33,7 +33,7 @@ use Rattle.frames.specs.Frames.{Note, Reach, framesOf, setOut, through}
 use Rattle.frames.proofs.Joined.{octetsIn, frames-fit, frames-many}
 use Rattle.frames.proofs.Adding.{poured-put, entries-put, sizesOf}
 use Rattle.playback.specs.Playback.{Playback, noteOf, notesWithin, played}
-use Rattle.playback.specs.Call.{Results, results, Reply, reply, answered, bundlesMax, bufferSize, Enough, playedFresh}
+use Rattle.playback.specs.Call.{playWindow, Results, results, Reply, reply, answered, bundlesMax, bufferSize, Enough, playedFresh}
 use Rattle.playback.specs.declared.Answer.the-variants.{Played}
 use Rattle.frames.proofs.Costs.{priced-read}
 use Rattle.playback.proofs.Fits.{bundlesLimit, Paid, Plays, plays}
@@ -65,29 +65,29 @@ left a =
 
 module _ (sizes joined : List ℕ) (limit : ℕ) (pool : List ℕ) (r : Results) (numbers : List ℕ) (E : Enough sizes joined pool r) (room : length (r .output) ≡ bufferSize) where
   abbrev board : Board
-  board = record { state = fresh Draft02 windowSize; pool = pool }
+  board = record { state = fresh Draft02 playWindow; pool = pool }
 
   abbrev fs : List (List ℕ)
   fs = framesOf sizes joined
 
   abbrev start : Reach
-  start = setOut (going (fresh Draft02 windowSize) pool (r .output) (r .lengths) numbers (begun 0)) (r .places) (r .reasons) 0
+  start = setOut (going (fresh Draft02 playWindow) pool (r .output) (r .lengths) numbers (begun 0)) (r .places) (r .reasons) 0
 
   abbrev after : Reach
-  after = through (draft Draft02) windowSize (playLimits limit) start fs
+  after = through (draft Draft02) playWindow (playLimits limit) start fs
 
-  at-first : Paid windowSize sixteen Rising (playLimits limit) refl (start .run) 0 (octetsIn fs)
+  at-first : Paid playWindow sixteen Rising (playLimits limit) refl (start .run) 0 (octetsIn fs)
   unfolding fresh
   at-first = record {
-    ready = fresh-ready windowSize sixteen Draft02 pool (E .pooled);
+    ready = fresh-ready playWindow sixteen Draft02 pool (E .pooled);
     size = room;
-    octets = omega (arith, held-fresh windowSize, frames-fit sizes joined, E .small);
+    octets = omega (arith, held-fresh playWindow, frames-fit sizes joined, E .small);
     bundles = omega (arith, frames-fit sizes joined, E .small);
     below = omega arith;
   }
 
-  P : Plays windowSize sixteen Rising (playLimits limit) refl (Layout.read Draft02) (sized Draft02) (priced-read Draft02) start after fs
-  P = plays windowSize sixteen Rising (playLimits limit) refl (Layout.read Draft02) (sized Draft02) (priced-read Draft02) fs start refl at-first
+  P : Plays playWindow sixteen Rising (playLimits limit) refl (Layout.read Draft02) (sized Draft02) (priced-read Draft02) start after fs
+  P = plays playWindow sixteen Rising (playLimits limit) refl (Layout.read Draft02) (sized Draft02) (priced-read Draft02) fs start refl at-first
 
   abbrev p : Playback
   p = playedFresh limit pool fs

@@ -9,7 +9,6 @@ use lib.ListN.{length, take, length-take}
 use lib.Dec.{ltb, eqb}
 use Rattle.wire.specs.declared.Version.the-variants.{Draft02}
 use Rattle.octets.proofs.Cases.{first, numbered, first-some, first-none}
-use Rattle.window.specs.Window.{windowSize}
 use Rattle.pieces.specs.Pieces.{bundleMax}
 use Rattle.rows.specs.Message.{draft}
 use Rattle.recording.specs.Recording as Recording
@@ -21,7 +20,7 @@ use Rattle.playback.specs.declared.Answer.the-variants.{Played, Refused}
 use Rattle.playback.specs.declared.Refusal.{Refusal}
 use Rattle.playback.specs.declared.Refusal.the-variants.{PoolSize, ShortOutput}
 use Rattle.playback.specs.Playback.{allMessages, played}
-use Rattle.playback.specs.Call.{refusalNumber, bundlesMax, Results, Reply, reply, answered, playedFresh, unlent, replied, playFrames, playRead, play}
+use Rattle.playback.specs.Call.{refusalNumber, bundlesMax, playWindow, Results, Reply, reply, answered, playedFresh, unlent, replied, playFrames, playRead, play}
 
 unfoldable pub playNumber : Answer → ℕ
 playNumber (Played messages bundles octets frames) = 0
@@ -30,7 +29,7 @@ playNumber (Refused q) = refusalNumber q
 -- document 02's table: "fewer are 24; first the reader's numbers, then 2 for the pool"
 abbrev pub lentCases : List ℕ → Results → List (ℕ × Bool)
 lentCases pool r =
-    (2, not (eqb (length pool) (windowSize * bundleMax)))
+    (2, not (eqb (length pool) (playWindow * bundleMax)))
     ∷ (24, ltb (length (r .output)) octetsMax || (ltb (length (r .lengths)) bundlesMax || (ltb (length (r .places)) framesMax || ltb (length (r .reasons)) framesMax)))
     ∷ []
 
@@ -48,7 +47,7 @@ module _ (recording : List ℕ) (limit : ℕ) (pool : List ℕ) (r : Results) wh
   lent-in-order : (t : Recording.Recording) → playNumber (playFrames t limit pool r .answer) ≡ first (lentCases pool r)
   unfolding playFrames unlent playNumber first
   lent-in-order t =
-      lent-order (not (eqb (length pool) (windowSize * bundleMax)))
+      lent-order (not (eqb (length pool) (playWindow * bundleMax)))
       (ltb (length (r .output)) octetsMax || (ltb (length (r .lengths)) bundlesMax || (ltb (length (r .places)) framesMax || ltb (length (r .reasons)) framesMax)))
       pool r (answered (playedFresh limit pool (framesOf (t .lengths) (t .octets))) r) refl
 

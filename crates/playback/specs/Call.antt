@@ -8,7 +8,6 @@ use lib.ListN.{length}
 use lib.Dec.{eqb, ltb}
 use Rattle.wire.specs.declared.Version.the-variants.{Draft02}
 use Rattle.octets.specs.Octets.{sumOf, put}
-use Rattle.window.specs.Window.{windowSize}
 use Rattle.pieces.specs.Pieces.{bundleMax}
 use Rattle.rows.specs.State.{fresh}
 use Rattle.rows.specs.Message.{draft, Handed}
@@ -66,14 +65,18 @@ reply answer pool r = record { answer = answer; pool = pool; results = r }
 abbrev pub answered : Playback → Results → Reply
 answered p r = reply (Played (length (p .messages)) (length (p .bundles)) (length (joinedOctets (p .bundles))) (length (p .notes))) (p .board .pool) (resulting p r)
 
--- "playback on a fresh receiver", of draft 02 ("recordings are draft 02", E5) and window 16
+-- "Playback and M13 relied on 16 and must now ask for it by name" (E6)
+abbrev pub playWindow : ℕ
+playWindow = 16
+
+-- "playback on a fresh receiver", of draft 02 ("recordings are draft 02", E5)
 abbrev pub playedFresh : ℕ → List ℕ → List (List ℕ) → Playback
-playedFresh limit pool fs = played (draft Draft02) windowSize limit (record { state = fresh Draft02 windowSize; pool = pool }) fs
+playedFresh limit pool fs = played (draft Draft02) playWindow limit (record { state = fresh Draft02 playWindow; pool = pool }) fs
 
 -- "fewer are 24; first the reader's numbers, then 2 for the pool"
 unfoldable pub unlent : List ℕ → Results → Option Refusal
 unlent pool r =
-    cond (not (eqb (length pool) (windowSize * bundleMax))) (some PoolSize)
+    cond (not (eqb (length pool) (playWindow * bundleMax))) (some PoolSize)
     (cond (ltb (length (r .output)) octetsMax || (ltb (length (r .lengths)) bundlesMax || (ltb (length (r .places)) framesMax || ltb (length (r .reasons)) framesMax))) (some ShortOutput) none)
 
 -- a refused call changes nothing
@@ -102,7 +105,7 @@ pub record Enough (sizes joined pool : List ℕ) (r : Results) : Type 0 where
   pub few : length sizes ≤ framesMax
   pub sum : sumOf sizes ≤ length joined
   pub small : length joined ≤ octetsMax
-  pub pooled : length pool ≡ windowSize * bundleMax
+  pub pooled : length pool ≡ playWindow * bundleMax
   pub lengths : bundlesMax ≤ length (r .lengths)
   pub places : framesMax ≤ length (r .places)
   pub reasons : framesMax ≤ length (r .reasons)

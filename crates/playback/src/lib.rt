@@ -1,10 +1,10 @@
 // Playback of a recording on a fresh receiver (document 02, E1).
 use frames::Reached;
 use messages::Limits;
-use receiver::POOL;
 use recording::FRAMES_MAX;
 use recording::OCTETS_MAX;
 use recording::Opening;
+use wire::Version;
 ghost use mathlib.Core.Path.{_≡_};
 ghost use Prim.Native.Nat.{_≤_};
 ghost use lib.ListN.{length};
@@ -12,6 +12,11 @@ ghost use Rattle.octets.specs.Octets.{sumOf};
 ghost use Rattle.recording.specs.Recording.{framesMax, octetsMax};
 ghost use Rattle.frames.specs.Frames.{framesOf};
 ghost use Rattle.playback.specs.Call as Call;
+
+// A playback's window and pool.
+const WINDOW: u32 = 16;
+
+const POOL: usize = 65536;
 
 // The most bundles: each takes up four octets of a recording at least. So the limit is never reached.
 const BUNDLES_MAX: usize = 15360;
@@ -74,7 +79,8 @@ fn play_frames<'a>(
         messages: limit,
         bundles: BUNDLES_LIMIT,
     };
-    let state = receiver::start();
+    let s = receiver::start_as(Version::Draft02, WINDOW);
+    let state = s.state;
     frames::run_frames(
         state,
         pool,

@@ -6,6 +6,7 @@ use Prim.Native.Nat.{ℕ}
 use Rattle.wire.specs.declared.Version.{Version}
 use Rattle.wire.specs.Frame.{Item}
 use Rattle.rows.specs.Message.{Draft, draft, Board, Handed, Outcome, step, messagesFrom}
+use Rattle.rows.specs.declared.Settings.{Settings}
 use Rattle.rows.proofs.Keeping.{settingsOf, step-keeps}
 use Rattle.receiver.specs.declared.Refusal.{Refusal}
 use Rattle.receiver.specs.Receive.{Reply, replied, delivered, refusal, treat, receiveAs, receive}
@@ -31,7 +32,7 @@ module _ (w : ℕ) (D : Draft) where
       go none = treat-keeps b (messagesFrom D frame place) output
       go (some r) = refl
 
--- a call of a board that is set to a draft is that draft's
-pub receive-as : (w : ℕ) (v : Version) (b : Board) (frame : List ℕ) (place : ℕ) (output : List ℕ) → b .state .settings .version ≡ v
-    → receive w b frame place output ≡ receiveAs (draft v) w b frame place output
-receive-as w v b frame place output e = ap (λ (u : Version). receiveAs (draft u) w b frame place output) e
+-- a call of a board that is set to a draft and a window is theirs
+pub receive-as : (v : Version) (w : ℕ) (b : Board) (frame : List ℕ) (place : ℕ) (output : List ℕ) → settingsOf b ≡ record { version = v; window = w }
+    → receive b frame place output ≡ receiveAs (draft v) w b frame place output
+receive-as v w b frame place output e = ap (λ (s : Settings). receiveAs (draft (s .version)) (s .window) b frame place output) e

@@ -1,18 +1,20 @@
 -- A board whose calls are refused only for their frame, place or output: every message leaves it so, and every call.
 use mathlib.Core.Path.{_≡_, refl, _∙_}
-use mathlib.Core.Bool.{Bool, true, false, _||_}
+use mathlib.Core.Bool.{Bool, true, false, _&&_}
 use mathlib.Core.Option.{Option, none, some}
 use mathlib.Core.List.{List, [], _∷_}
 use Prim.Native.Nat.{ℕ, zero, suc, _+_, _*_, _<_}
 use native.Mathlib.Omega.{arith}
 use lib.ListN.{length, getD, set, replicate, length-set, length-replicate}
-use lib.Dec.{eqb}
-use Rattle.octets.proofs.Flags.{and, both, or-left, cond-elim}
+use lib.Dec.{ltb}
+use borrow.Author.Tests.{lt-ltb}
+use Rattle.octets.proofs.Flags.{and, both, cond-elim}
 use Rattle.wire.specs.Message.{Message, skipped, bundle, segment, last, cancel}
 use Rattle.wire.specs.Frame.{Item}
 use Rattle.window.specs.declared.Standing.{Standing}
 use Rattle.window.specs.declared.Standing.the-variants.{Inside, New, Outside}
-use Rattle.window.specs.Window.{Window, standingOf, rowOf, enters}
+use Rattle.window.specs.Window.{Window, isWindow, standingOf, rowOf, enters}
+use Rattle.window.proofs.Sizes.{is-window, window-range}
 use Rattle.window.proofs.Entering.{inside-present, row-below}
 use Rattle.pieces.specs.declared.Order.{Order}
 use Rattle.row.specs.declared.Row.{Row}
@@ -22,21 +24,21 @@ use Rattle.pieces.specs.Pieces.{bundleMax}
 use Rattle.row.specs.Row.{emptyRow, soundRow}
 use Rattle.reassembly.specs.Rules.{pieceStep, cancelStep}
 use Rattle.row.proofs.Shaped.{Shaped, empty-shaped}
-use Rattle.row.proofs.Sound.{empty-sound}
 use Rattle.reassembly.proofs.Kept.{cancel-sound, cancel-shaped, piece-sound, piece-shaped, piece-cell}
 use Rattle.receiver.specs.declared.Refusal.{Refusal}
 use Rattle.rows.specs.State as State
 use Rattle.wire.specs.declared.Version.{Version}
-use Rattle.rows.specs.State.{isFree, soundIn, soundRows, fresh}
+use Rattle.rows.specs.State.{windowOf, rowMax, soundIn, soundFrom, fresh}
 use Rattle.rows.specs.Message.{Draft, Board, Handed, Outcome, cellAt, moved, inRow, treatTransfer, step, messagesFrom}
 use Rattle.receiver.specs.Receive.{Reply, replied, delivered, refusal, treat, receiveAs}
-use Rattle.rows.proofs.Rows.{sound-get, sound-set, sound-present, sound-freed, length-freed, getD-freed}
+use Rattle.rows.proofs.Rows.{sound-parts, sound-whole, sound-in, free-in, sound-get, sound-set, sound-present, sound-freed, length-freed, getD-freed}
 use Rattle.messages.proofs.Cells.{length-cell, length-put-cell}
 
 pub record Ready (w : ℕ) (b : Board) : Type 0 where
+  pub window : windowOf (b .state) ≡ w
   pub sound : State.sound (b .state) ≡ true
-  pub shaped : (r : ℕ) → r < w → Shaped (getD (b .state .rows) r (emptyRow Free))
-  pub rows : length (b .state .rows) ≡ w
+  pub shaped : (r : ℕ) → r < rowMax → Shaped (getD (b .state .rows) r (emptyRow Free))
+  pub rows : length (b .state .rows) ≡ rowMax
   pub pool : length (b .pool) ≡ w * bundleMax
 
 -- what a row rule keeps
@@ -61,30 +63,43 @@ set-elim P (r ∷ rs) (suc k) zero x z p q = q
 set-elim P (r ∷ rs) (suc k) (suc i) x z p q = set-elim P rs k i x z p q
 
 module _ (w : ℕ) (win : Window w) where
+  rows-sound : {b : Board} → Ready w b → soundFrom w 0 (b .state .present) (b .state .rows) ≡ true
+  rows-sound {b} R = rw (← R .window) (sound-parts (b .state) (R .sound) .2)
+
+  low : {b : Board} → Ready w b → (k : ℕ) → k < w → k < length (b .state .rows)
+  low R k h = omega (arith, R .rows, window-range w win)
+
+  pub found-shaped : {b : Board} → Ready w b → (k : ℕ) → k < w → Shaped (getD (b .state .rows) k (emptyRow Free))
+  found-shaped R k h = R .shaped k (omega (arith, window-range w win))
+
+  pub found-sound : {b : Board} → Ready w b → (k : ℕ) → k < w → soundRow (getD (b .state .rows) k (emptyRow Free)) ≡ true
+  found-sound {b} R k h = both _ _ (sound-get w (b .state .present) 0 (b .state .rows) k (emptyRow Free) (low R k h) (rows-sound R)) .0
+
   row-ready : (rule : Row → List ℕ → Rules.Outcome) → Keeps rule → (b : Board) (t : ℕ) → Ready w b → b .state .present ≡ true → Ready w (inRow w rule b t .board)
-  unfolding inRow State.sound
+  unfolding inRow
   row-ready rule K b t R present =
       let k : ℕ = rowOf w t in
       let r : Row = getD (b .state .rows) k (emptyRow Free) in
       let cell : List ℕ = cellAt (b .pool) k in
       let k< = row-below w win t in
-      let s = both (b .state .present || eqb (b .state .greatest) 0) (soundRows (b .state .present) (b .state .rows)) (R .sound) .1 in
-      let old = both (soundRow r) (b .state .present || isFree (r .phase)) (sound-get (b .state .present) (b .state .rows) k (emptyRow Free) (omega (arith, R .rows)) s) .0 in
       let row : Row = rule r cell .row in
-      let new = and (soundRow row) (b .state .present || isFree (row .phase)) (K .sound r cell old (R .shaped k k<)) (or-left (b .state .present) (isFree (row .phase)) present) in
+      let here : (b .state .present && ltb (0 + k) w) ≡ true = and (b .state .present) (ltb (0 + k) w) present (lt-ltb (0 + k) w (omega (arith, k<))) in
+      let new = sound-in (b .state .present && ltb (0 + k) w) row (K .sound r cell (found-sound R k k<) (found-shaped R k k<)) here in
+      let p = sound-parts (b .state) (R .sound) in
       record {
-        sound = and (b .state .present || eqb (b .state .greatest) 0) _ (or-left (b .state .present) (eqb (b .state .greatest) 0) present) (sound-set (b .state .present) (b .state .rows) k row s new);
-        shaped = λ i i<. set-elim Shaped (b .state .rows) k i row (emptyRow Free) (K .shaped r cell (R .shaped k k<)) (R .shaped i i<);
+        window = R .window;
+        sound = sound-whole _ (p .0) (p .1) (rw (R .window) (sound-set w (b .state .present) 0 (b .state .rows) k row (rows-sound R) new));
+        shaped = λ i i<. set-elim Shaped (b .state .rows) k i row (emptyRow Free) (K .shaped r cell (found-shaped R k k<)) (R .shaped i i<);
         rows = length-set (b .state .rows) k row ∙ R .rows;
         pool = length-put-cell w (b .pool) (R .pool) k k< (rule r cell .cell) (K .cell r cell (length-cell w (b .pool) (R .pool) k k<));
       }
 
   pub moved-ready : (b : Board) (t d : ℕ) → Ready w b → Ready w (moved w b t d)
-  unfolding moved State.sound
+  unfolding moved
   moved-ready b t d R =
-      let s = both (b .state .present || eqb (b .state .greatest) 0) (soundRows (b .state .present) (b .state .rows)) (R .sound) .1 in
       record {
-        sound = sound-freed w 0 (b .state .greatest) d (b .state .rows) (sound-present (b .state .present) (b .state .rows) s);
+        window = R .window;
+        sound = sound-whole _ (rw (R .window) (is-window w win)) refl (rw (R .window) (sound-freed w 0 (b .state .greatest) d (b .state .rows) (sound-present w 0 (b .state .present) (b .state .rows) (rows-sound R))));
         shaped = λ i i<. rw (getD-freed w 0 (b .state .greatest) d (b .state .rows) i (emptyRow Free) (omega (arith, R .rows)))
             (cond-elim Shaped (enters w (b .state .greatest) d (0 + i)) (λ e. empty-shaped Free) (λ e. R .shaped i i<));
         rows = length-freed w 0 (b .state .greatest) d (b .state .rows) ∙ R .rows;
@@ -128,10 +143,10 @@ module _ (w : ℕ) (win : Window w) where
         go none = treat-ready b (messagesFrom D frame place) output R
         go (some r) = R
 
-  free-rows : (n : ℕ) → soundRows false (replicate n (emptyRow Free)) ≡ true
-  unfolding soundRows
-  free-rows zero = refl
-  free-rows (suc n) = and (soundIn false (emptyRow Free)) (soundRows false (replicate n (emptyRow Free))) (and (soundRow (emptyRow Free)) true (empty-sound Free refl) refl) (free-rows n)
+  free-rows : (r n : ℕ) → soundFrom w r false (replicate n (emptyRow Free)) ≡ true
+  unfolding soundFrom
+  free-rows r zero = refl
+  free-rows r (suc n) = and (soundIn false (emptyRow Free)) (soundFrom w (suc r) false (replicate n (emptyRow Free))) (free-in false) (free-rows (suc r) n)
 
   free-row : (n i : ℕ) → getD (replicate n (emptyRow Free)) i (emptyRow Free) ≡ emptyRow Free
   free-row zero i = refl
@@ -139,5 +154,17 @@ module _ (w : ℕ) (win : Window w) where
   free-row (suc n) (suc i) = free-row n i
 
   pub fresh-ready : (v : Version) (pool : List ℕ) → length pool ≡ w * bundleMax → Ready w (record { state = fresh v w; pool = pool })
-  unfolding fresh State.sound
-  fresh-ready v pool l = record { sound = free-rows w; shaped = λ i i<. rw (free-row w i) (empty-shaped Free); rows = length-replicate w (emptyRow Free); pool = l }
+  unfolding fresh
+  fresh-ready v pool l =
+      record {
+        window = refl;
+        sound = sound-whole _ (is-window w win) refl (free-rows 0 rowMax);
+        shaped = λ i i<. rw (free-row rowMax i) (empty-shaped Free);
+        rows = length-replicate rowMax (emptyRow Free);
+        pool = l;
+      }
+
+-- the state of a refused start is not sound
+pub refused-unsound : (v : Version) (w : ℕ) → isWindow w ≡ false → State.sound (fresh v w) ≡ false
+unfolding fresh State.sound
+refused-unsound v w e = rw e

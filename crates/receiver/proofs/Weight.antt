@@ -1,13 +1,12 @@
 -- What messages hand out came with them, or with earlier ones: no octet is handed out twice (document 02, E1: the bounds of playback).
-use mathlib.Core.Bool.{Bool, true, false, cond, _||_}
+use mathlib.Core.Bool.{Bool, true, false, cond}
 use mathlib.Core.List.{List, [], _∷_}
 use mathlib.Core.Option.{Option, none, some}
 use mathlib.Core.Path.{_≡_, refl}
 use Prim.Native.Nat.{ℕ, zero, suc, _+_, _≤_}
 use native.Mathlib.Omega.{arith}
 use lib.ListN.{length, getD, set}
-use lib.Dec.{eqb}
-use Rattle.octets.proofs.Flags.{both, cond-elim}
+use Rattle.octets.proofs.Flags.{cond-elim}
 use Rattle.wire.specs.Message.{Message, skipped, bundle, segment, last, cancel}
 use Rattle.window.specs.declared.Standing.{Standing}
 use Rattle.window.specs.declared.Standing.the-variants.{Inside, New, Outside}
@@ -22,13 +21,10 @@ use Rattle.reassembly.specs.Rules as Rules
 use Rattle.pieces.specs.Pieces.{bundleMax}
 use Rattle.reassembly.specs.Rules.{pieceStep, cancelStep, cancelled}
 use Rattle.reassembly.proofs.Kept.{bundleSize, weight, empty-weight, piece-weight, piece-bundle-fits}
-use Rattle.rows.specs.State as State
-use Rattle.rows.specs.State.{isFree, soundRows}
 use Rattle.rows.specs.Message.{Board, Handed, Outcome, cellAt, freedFrom, moved, inRow, treatTransfer, step, handedOf}
 use Rattle.rows.specs.declared.Origin.{Origin}
 use Rattle.messages.proofs.Cells.{length-cell}
-use Rattle.rows.proofs.Rows.{sound-get}
-use Rattle.receiver.proofs.Ready.{Ready, moved-ready}
+use Rattle.receiver.proofs.Ready.{Ready, found-shaped, found-sound, moved-ready}
 
 -- the octets held by all rows
 unfoldable pub held : List Row → ℕ
@@ -99,15 +95,13 @@ fits-cancel r cell s z l = omega arith
 module _ (w : ℕ) (win : Window w) where
   row-weight : (n : ℕ) (rule : Row → List ℕ → Rules.Outcome) → Weighs n rule → (b : Board) (t : ℕ) → Ready w b
       → octetsOf (inRow w rule b t .handed) + held (inRow w rule b t .board .state .rows) ≤ held (b .state .rows) + n
-  unfolding inRow State.sound
+  unfolding inRow
   row-weight n rule W b t R =
       let k : ℕ = rowOf w t in
       let r : Row = getD (b .state .rows) k (emptyRow Free) in
       let k< = row-below w win t in
-      let s = both (b .state .present || eqb (b .state .greatest) 0) (soundRows (b .state .present) (b .state .rows)) (R .sound) .1 in
-      let old = both (soundRow r) (b .state .present || isFree (r .phase)) (sound-get (b .state .present) (b .state .rows) k (emptyRow Free) (omega (arith, R .rows)) s) .0 in
       let o : Rules.Outcome = rule r (cellAt (b .pool) k) in
-      rw (handed-size _ (o .bundle)) (omega (arith, held-set (b .state .rows) k (o .row), W r (cellAt (b .pool) k) old (R .shaped k k<) (length-cell w (b .pool) (R .pool) k k<)))
+      rw (handed-size _ (o .bundle)) (omega (arith, held-set (b .state .rows) k (o .row), W r (cellAt (b .pool) k) (found-sound w win R k k<) (found-shaped w win R k k<) (length-cell w (b .pool) (R .pool) k k<)))
 
   transfer-weight : (s : Standing) (n : ℕ) (rule : Row → List ℕ → Rules.Outcome) → Weighs n rule → (b : Board) (t : ℕ) → Ready w b
       → octetsOf (treatTransfer w s rule b t .handed) + held (treatTransfer w s rule b t .board .state .rows) ≤ held (b .state .rows) + n
@@ -127,14 +121,12 @@ module _ (w : ℕ) (win : Window w) where
   step-weight order b (cancel t) R = transfer-weight _ 0 _ weighs-cancel b t R
 
   row-fits : (rule : Row → List ℕ → Rules.Outcome) → Fits rule → (b : Board) (t : ℕ) → Ready w b → octetsOf (inRow w rule b t .handed) ≤ bundleMax
-  unfolding inRow State.sound
+  unfolding inRow
   row-fits rule W b t R =
       let k : ℕ = rowOf w t in
       let r : Row = getD (b .state .rows) k (emptyRow Free) in
       let k< = row-below w win t in
-      let s = both (b .state .present || eqb (b .state .greatest) 0) (soundRows (b .state .present) (b .state .rows)) (R .sound) .1 in
-      let old = both (soundRow r) (b .state .present || isFree (r .phase)) (sound-get (b .state .present) (b .state .rows) k (emptyRow Free) (omega (arith, R .rows)) s) .0 in
-      rw (handed-size _ (rule r (cellAt (b .pool) k) .bundle)) (W r (cellAt (b .pool) k) old (R .shaped k k<) (length-cell w (b .pool) (R .pool) k k<))
+      rw (handed-size _ (rule r (cellAt (b .pool) k) .bundle)) (W r (cellAt (b .pool) k) (found-sound w win R k k<) (found-shaped w win R k k<) (length-cell w (b .pool) (R .pool) k k<))
 
   transfer-fits : (s : Standing) (rule : Row → List ℕ → Rules.Outcome) → Fits rule → (b : Board) (t : ℕ) → Ready w b → octetsOf (treatTransfer w s rule b t .handed) ≤ bundleMax
   unfolding treatTransfer octetsOf

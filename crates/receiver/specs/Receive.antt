@@ -1,4 +1,4 @@
--- The receiving call (document 01, "Receiving call" and "Numbers of refusal"), over the draft and the window size w.
+-- Start and the receiving call (document 01, "Receiving call" and "Numbers of refusal"), over the draft and the window size w.
 use mathlib.Core.Bool.{cond, not, _||_}
 use mathlib.Core.Option.{Option, none, some}
 use mathlib.Core.List.{List, [], _∷_}
@@ -9,15 +9,26 @@ use Rattle.octets.specs.Octets.{put}
 use Rattle.wire.specs.Message.{faultNumber}
 use Rattle.wire.specs.declared.Checked.{Checked}
 use Rattle.wire.specs.declared.Checked.the-variants as Frame
+use Rattle.wire.specs.declared.Version.{Version}
 use Rattle.wire.specs.Frame.{Item, checked, frameMax}
+use Rattle.window.specs.Window.{isWindow}
 use Rattle.pieces.specs.Pieces.{bundleMax}
 use Rattle.receiver.specs.declared.Answer.{Answer}
 use Rattle.receiver.specs.declared.Answer.the-variants.{Delivered, Finished, Refused}
 use Rattle.receiver.specs.declared.Refusal.{Refusal}
 use Rattle.receiver.specs.declared.Refusal.the-variants.{Unsound, BufferSize, FrameSize, Malformed, Misplaced}
 use Rattle.receiver.specs.declared.Received.{Received}
-use Rattle.rows.specs.State.{sound}
+use Rattle.receiver.specs.declared.Started.{Started}
+use Rattle.rows.specs.State.{sound, windowOf, fresh}
 use Rattle.rows.specs.Message.{Draft, draftOf, messagesFrom, Board, Handed, Outcome, step}
+
+-- "The window becomes 4, 8 or 16, chosen at start and kept in the state, else refusal 21" (document 02, E6); 0 for none
+abbrev pub startRefusal : ℕ → ℕ
+startRefusal w = cond (isWindow w) 0 21
+
+-- what a start answers; the state of a refused start is not sound
+abbrev pub start : Version → ℕ → Started
+start v w = record { refusal = startRefusal w; state = fresh v w }
 
 -- document 01's numbers of refusal, and the place that the answer names: the first bad message's start, for 4 to 8
 abbrev pub refusalNumber : Refusal → ℕ
@@ -92,6 +103,6 @@ module _ (D : Draft) (w : ℕ) where
   unfoldable pub receiveAs : Board → List ℕ → ℕ → List ℕ → Reply
   receiveAs b frame place output = replied (refusal b frame place output) b output (treat b (messagesFrom D frame place) output)
 
--- the receiving call, by the board's own draft
-abbrev pub receive : ℕ → Board → List ℕ → ℕ → List ℕ → Reply
-receive w b = receiveAs (draftOf (b .state)) w b
+-- the receiving call, by the board's own draft and window
+abbrev pub receive : Board → List ℕ → ℕ → List ℕ → Reply
+receive b = receiveAs (draftOf (b .state)) (windowOf (b .state)) b

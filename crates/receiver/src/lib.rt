@@ -11,16 +11,15 @@ use wire::FRAME_MAX;
 use wire::Fault;
 use wire::Version;
 ghost use mathlib.Core.Path.{_≡_};
+ghost use Prim.Native.Nat.{_*_};
 ghost use Rattle.wire.specs.declared.Version.the-variants.{Draft02};
-ghost use Rattle.window.specs.Window.{windowSize};
+ghost use Rattle.window.specs.Window.{plainWindow};
+ghost use Rattle.pieces.specs.Pieces.{bundleMax};
 ghost use Rattle.rows.specs.State as Spec;
 ghost use Rattle.rows.specs.State.{windowOf};
 ghost use Rattle.rows.specs.Message.{draft, draftOf};
 ghost use Rattle.receiver.specs.Receive as Call;
 ghost use Rattle.receiver.specs.Steps as Steps;
-
-// The octets of a pool: a part of 4,096 for each row.
-pub const POOL: usize = 65536;
 
 // Refusals 1, 2, 3, 4 to 8 with the first bad message's start, and 9.
 pub enum Refusal {
@@ -53,24 +52,48 @@ pub enum Admission {
     Denied(Refusal),
 }
 
-// A receiver of either draft.
-pub fn start_as(version: Version) -> State
-    ensures { λ r. ⌜ r ≡ Spec.fresh version windowSize ⌝ }
+// Refusal 21, or 0, and the state. The state of a refused start is not sound: every call refuses it.
+pub struct Started {
+    pub refusal: u32,
+    pub state: State,
+}
+
+fn fresh(version: Version, window: u32) -> State
+    ensures { λ r. ⌜ r ≡ Spec.fresh version window ⌝ }
 {
     let free = row::empty_row(Phase::Free);
     State {
         present: false,
         greatest: 0,
         rows: [free; 16],
-        settings: Settings { version },
+        settings: Settings { version, window },
     }
 }
 
-// A receiver of draft 02.
-pub fn start() -> State
-    ensures { λ r. ⌜ r ≡ Spec.fresh Draft02 windowSize ⌝ }
+fn start_refusal(window: u32) -> u32
+    ensures { λ r. ⌜ r ≡ Call.startRefusal window ⌝ }
 {
-    start_as(Version::Draft02)
+    if window::is_window(window) {
+        return 0;
+    }
+    21
+}
+
+// A receiver of either draft, with a window of 4, 8 or 16.
+pub fn start_as(version: Version, window: u32) -> Started
+    ensures { λ r. ⌜ r ≡ Call.start version window ⌝ }
+{
+    Started {
+        refusal: start_refusal(window),
+        state: fresh(version, window),
+    }
+}
+
+// A receiver of draft 02 with the plain window.
+pub fn start() -> State
+    ensures { λ r. ⌜ r ≡ Spec.fresh Draft02 plainWindow ⌝ }
+{
+    fresh(Version::Draft02, window::PLAIN)
 }
 
 fn admitted(c: Checked) -> Admission
@@ -93,12 +116,20 @@ pub fn admit_frame(version: Version, frame: &[u8], place: usize) -> Admission
     admitted(wire::check_frame(version, frame, place))
 }
 
+// The octets of a pool: 4,096 for each row.
+pub fn pool_size(window: u32) -> usize
+    ensures { λ r. ⌜ r ≡ window * bundleMax ⌝ }
+{
+    window as usize * BUNDLE_MAX
+}
+
 // The first refusal that applies.
 fn admit(state: State, pool: &[u8], frame: &[u8], place: usize, output: &[u8]) -> Admission
     ensures { λ r. ⌜ r ≡ Steps.admission (Call.refusal (draftOf state) (windowOf state) (record { state = state; pool = now (pool .entry) }) (now (frame .entry)) place (now (output .entry))) ⌝ }
 {
     if rows::is_sound(state) {
-        if (pool.len() != POOL) | (output.len() < BUNDLE_MAX) {
+        let size = pool_size(state.settings.window);
+        if (pool.len() != size) | (output.len() < BUNDLE_MAX) {
             return Admission::Denied(Refusal::BufferSize);
         }
         return admit_frame(rows::version_of(state), frame, place);
@@ -141,7 +172,7 @@ pub fn receive(
     place: usize,
     output: &mut [u8],
 ) -> Received
-    ensures { λ r. ⌜ Call.reply r (now (pool .exit)) (now (output .exit)) ≡ Call.receive (windowOf state) (record { state = state; pool = now (pool .entry) }) (now (frame .entry)) place (now (output .entry)) ⌝ }
+    ensures { λ r. ⌜ Call.reply r (now (pool .exit)) (now (output .exit)) ≡ Call.receive (record { state = state; pool = now (pool .entry) }) (now (frame .entry)) place (now (output .entry)) ⌝ }
 {
     let a = admit(state, &pool[..], frame, place, &output[..]);
     if let Admission::Denied(refusal) = a {

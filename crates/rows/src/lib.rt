@@ -1,5 +1,5 @@
-// A receiver's state: the greatest number and a row for each number of the window. Which states are sound, which rows a new number frees,
-// and where a message goes (document 01, "Transfer window" and "Sound state").
+// A receiver's state: the greatest number, a row for each number of the window, and the settings. Which states are sound, which rows a new
+// number frees, and where a message goes (document 01, "Transfer window" and "Sound state").
 use pieces::Order;
 use row::Phase;
 use row::Row;
@@ -11,7 +11,7 @@ ghost use mathlib.Core.Bool.{true, cond};
 ghost use lib.ListN.{length};
 ghost use lib.Dec.{ltb};
 ghost use Rattle.wire.specs.Layout.{fitting, message};
-ghost use Rattle.window.specs.Window.{windowSize, standingOf};
+ghost use Rattle.window.specs.Window.{isWindow, standingOf};
 ghost use Rattle.rows.specs.State as Spec;
 ghost use Rattle.rows.specs.Message as Message;
 ghost use Rattle.rows.specs.Message.{freedFrom};
@@ -20,9 +20,11 @@ ghost use Rattle.rows.specs.Visit as Visits;
 // What is chosen at start and stays.
 pub struct Settings {
     pub version: Version,
+    pub window: u32,
 }
 
-// The greatest transfer number, where there is one yet, a row for each number of the window, and the settings.
+// The greatest transfer number, where there is one yet, a row for each number of the window, and the settings. Rows beyond the window carry
+// no meaning and are free.
 pub struct State {
     pub present: bool,
     pub greatest: u32,
@@ -86,7 +88,7 @@ fn is_free(phase: Phase) -> bool
     }
 }
 
-// A row is sound, and free where there is no greatest number.
+// A row is sound, and free where no number has it.
 fn sound_in(row: Row, present: bool) -> bool
     ensures { λ r. ⌜ r ≡ Spec.soundIn present row ⌝ }
 {
@@ -98,12 +100,13 @@ fn sound_in(row: Row, present: bool) -> bool
 pub fn is_sound(state: State) -> bool
     ensures { λ r. ⌜ r ≡ Spec.sound state ⌝ }
 {
+    let window = state.settings.window;
     let present = state.present;
-    let mut sound = present | (state.greatest == 0);
+    let mut sound = window::is_window(window) & (present | (state.greatest == 0));
     let mut k = 0;
     while k < 16 {
         let row = state.rows[k];
-        sound = sound & sound_in(row, present);
+        sound = sound & sound_in(row, present & (k < window as usize));
         k += 1;
     }
     sound
@@ -119,16 +122,17 @@ fn least(a: u32, b: u32) -> u32
 }
 
 // The rows of the numbers that entered, so many after the greatest, become free.
-pub fn freed(rows: [Row; 16], greatest: u32, entered: u32) -> [Row; 16]
-    ensures { λ r. ⌜ r ≡ freedFrom windowSize 0 greatest entered rows ⌝ }
+pub fn freed(rows: [Row; 16], window: u32, greatest: u32, entered: u32) -> [Row; 16]
+    requires { ⌜ isWindow window ≡ true ⌝ }
+    ensures { λ r. ⌜ r ≡ freedFrom window 0 greatest entered rows ⌝ }
 {
     let free = row::empty_row(Phase::Free);
-    let count = least(entered, 16);
-    let first = greatest % 16 + 1;
+    let count = least(entered, window);
+    let first = greatest % window + 1;
     let mut next = rows;
     let mut j = 0;
     while j < count {
-        let slot = window::row_of(first + j);
+        let slot = window::row_of(window, first + j);
         next[slot] = free;
         j += 1;
     }
@@ -149,12 +153,13 @@ fn stay(present: bool, greatest: u32, act: Act) -> Visit
 }
 
 // Where a transfer message goes.
-fn transfer_visit(present: bool, greatest: u32, act: Act, number: u32) -> Visit
-    ensures { λ r. ⌜ r ≡ Visits.transferVisit windowSize (standingOf windowSize present greatest number) present greatest act number ⌝ }
+fn transfer_visit(window: u32, present: bool, greatest: u32, act: Act, number: u32) -> Visit
+    requires { ⌜ isWindow window ≡ true ⌝ }
+    ensures { λ r. ⌜ r ≡ Visits.transferVisit window (standingOf window present greatest number) present greatest act number ⌝ }
 {
-    let slot = window::row_of(number);
+    let slot = window::row_of(window, number);
     let origin = Origin::Transfer(number);
-    let s = window::standing_of(present, greatest, number);
+    let s = window::standing_of(window, present, greatest, number);
     match s {
         Standing::Inside => Visit {
             act,
@@ -177,26 +182,29 @@ fn transfer_visit(present: bool, greatest: u32, act: Act, number: u32) -> Visit
 }
 
 // Where a message goes.
-pub fn visit_of(present: bool, greatest: u32, kind: Kind, content: &[u8]) -> Visit
-    requires { ⌜ fitting kind (length (now content)) ≡ true ⌝ }
-    ensures { λ r. ⌜ r ≡ Visits.visitOf windowSize present greatest (message kind (now (content .entry))) ⌝ }
+pub fn visit_of(window: u32, present: bool, greatest: u32, kind: Kind, content: &[u8]) -> Visit
+    requires { ⌜ (isWindow window ≡ true) × (fitting kind (length (now content)) ≡ true) ⌝ }
+    ensures { λ r. ⌜ r ≡ Visits.visitOf window present greatest (message kind (now (content .entry))) ⌝ }
 {
     match kind {
         Kind::Skipped => stay(present, greatest, Act::Pass),
         Kind::Bundle => stay(present, greatest, Act::HandOut),
         Kind::Segment => transfer_visit(
+            window,
             present,
             greatest,
             Act::Piece(false),
             octets::number_at(content, 0),
         ),
         Kind::End => transfer_visit(
+            window,
             present,
             greatest,
             Act::Piece(true),
             octets::number_at(content, 0),
         ),
         Kind::Cancel => transfer_visit(
+            window,
             present,
             greatest,
             Act::Cancel,

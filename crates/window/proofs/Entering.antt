@@ -51,23 +51,28 @@ module _ (w : ℕ) (win : Window w) (g t : ℕ) (g< : g < 2 ^ 32) (t< : t < 2 ^ 
   -- a new number's own row is entered
   pub own-enters : 0 < distance g t → enters w g (distance g t) (rowOf w t) ≡ true
   unfolding enters
-  own-enters h = lt-ltb (ahead w g (rowOf w t)) (distance g t) (omega (arith, ahead-own h, mod-le w win (distance g t - 1)))
+  own-enters h = rw (lt-ltb (rowOf w t) w (row-below w win t)) (lt-ltb (ahead w g (rowOf w t)) (distance g t) (omega (arith, ahead-own h, mod-le w win (distance g t - 1))))
 
   -- and is the only one where the number is the next
   pub next-enters : distance g t ≡ 1 → (r : ℕ) → r < w → (r ≡ rowOf w t → ⊥) → enters w g 1 r ≡ false
   unfolding enters
   next-enters e r r< other =
       let own : ahead w g (rowOf w t) ≡ 0 = omega (arith, ahead-own (omega arith), mod-le w win (distance g t - 1)) in
-      le-ltb (ahead w g r) 1 (apart (ahead w g r) λ z. other (row-ahead w win g r r< ∙ ap (λ n. (g % w + 1 + n) % w) (z ∙ sym own) ∙ sym (row-ahead w win g (rowOf w t) (row-below w win t))))
+      rw (lt-ltb r w r<) (le-ltb (ahead w g r) 1 (apart (ahead w g r) λ z. other (row-ahead w win g r r< ∙ ap (λ n. (g % w + 1 + n) % w) (z ∙ sym own) ∙ sym (row-ahead w win g (rowOf w t) (row-below w win t)))))
     where
       apart : (n : ℕ) → (n ≡ 0 → ⊥) → 1 ≤ n
       apart zero h = absurd (h refl)
       apart (suc n) h = omega arith
 
 -- every row is entered by as many numbers as there are rows
-pub all-enter : (w : ℕ) → Window w → (g d r : ℕ) → w ≤ d → enters w g d r ≡ true
+pub all-enter : (w : ℕ) → Window w → (g d r : ℕ) → r < w → w ≤ d → enters w g d r ≡ true
 unfolding enters
-all-enter w win g d r h = lt-ltb (ahead w g r) d (omega (arith, ahead-below w win g r))
+all-enter w win g d r r< h = rw (lt-ltb r w r<) (lt-ltb (ahead w g r) d (omega (arith, ahead-below w win g r)))
+
+-- a row beyond the window is no number's
+pub none-beyond : (w g d r : ℕ) → w ≤ r → enters w g d r ≡ false
+unfolding enters
+none-beyond w g d r h = rw (le-ltb r w h)
 
 -- what a new number enters
 pub record Entered (w g t d : ℕ) : Type 0 where
@@ -103,7 +108,7 @@ entered w win true g t d g< t< h =
 entered w win false g t d g< t< h =
     let e : w ≡ d = cc in
     let one = at-least w win in
-    record { some = omega arith; own = all-enter w win g d (rowOf w t) (omega arith); others = λ q. absurd (omega arith) }
+    record { some = omega arith; own = all-enter w win g d (rowOf w t) (row-below w win t) (omega arith); others = λ q. absurd (omega arith) }
 
 -- a number is inside only where there is a greatest number
 pub inside-present : (w g : ℕ) (p : Bool) (t : ℕ) → standingOf w p g t ≡ Inside → p ≡ true

@@ -1,10 +1,10 @@
 -- `burst::receive_burst` meets its contract.
 use mathlib.Core.Option.{Option, none}
 use mathlib.Core.Path.{_≡_, sym, ap, _∙_}
-use Prim.Native.Nat.{_≤_}
+use Prim.Native.Nat.{ℕ, _≤_}
 use native.Mathlib.Omega.{arith}
 use lib.ListN.{length}
-use Rattle.window.specs.Window.{windowSize}
+use Rattle.rows.specs.State.{windowOf}
 use Rattle.rows.specs.Message.{Draft, draftOf, Board}
 use Rattle.messages.specs.Run.{going, begun}
 use Rattle.frames.specs.Frames.{setOut, through}
@@ -26,8 +26,11 @@ module _ (c : tie.Start) where
   abbrev lent : Lists
   lent = lists (c .args .output .now) (c .args .lengths .now) (c .args .numbers .now) (c .args .places .now) (c .args .reasons .now)
 
+  abbrev w : ℕ
+  w = windowOf (c .args .state)
+
   abbrev refusalAt : Option Refusal
-  refusalAt = refusal D windowSize board (c .args .sizes .now) (c .args .joined .now) (c .args .frame) (c .args .place) (c .args .output .now)
+  refusalAt = refusal D w board (c .args .sizes .now) (c .args .joined .now) (c .args .frame) (c .args .place) (c .args .output .now)
 
 admit-requires : tie.Need-admit-requires
 admit-requires c κs = search needs
@@ -44,7 +47,7 @@ same-length-2 c = search needs
 returns : tie.Need-returns
 returns c =
     let s = c .before .before .before .before .before .before .before .before .before .before in
-    sym (refused (D s) windowSize (board s) (s .args .sizes .now) (s .args .joined .now) (s .args .frame) (s .args .place) (lent s) _ (denied (refusalAt s) _ (sym (c .before .before .before .admit .ensures) ∙ c .before .a .given .1)))
+    sym (refused (D s) (w s) (board s) (s .args .sizes .now) (s .args .joined .now) (s .args .frame) (s .args .place) (lent s) _ (denied (refusalAt s) _ (sym (c .before .before .before .admit .ensures) ∙ c .before .a .given .1)))
 
 enum-told : tie.Need-enum-told
 enum-told c = search needs
@@ -57,8 +60,8 @@ module _ (c : tie.After-enum-told) where
   none-applies : refusalAt start ≡ none
   none-applies = admitted (refusalAt start) (sym (c .before .before .admit .ensures) ∙ c .enum-told .given .1)
 
-  admitting : Admits (D start) windowSize (board start) (start .args .sizes .now) (start .args .joined .now) (start .args .frame) (start .args .place) (lent start)
-  admitting = admits (D start) windowSize (board start) (start .args .sizes .now) (start .args .joined .now) (start .args .frame) (start .args .place) (lent start) none-applies
+  admitting : Admits (D start) (w start) (board start) (start .args .sizes .now) (start .args .joined .now) (start .args .frame) (start .args .place) (lent start)
+  admitting = admits (D start) (w start) (board start) (start .args .sizes .now) (start .args .joined .now) (start .args .frame) (start .args .place) (lent start) none-applies
 
 sum-of-requires : tie.Need-sum-of-requires
 sum-of-requires c κs = let A = admitting c in (A .below, omega (arith, A .below, A .few))
@@ -123,8 +126,8 @@ returns-2 c =
     let a = s .args in
     let same = frames-parts (a .frame) (m .sum-of .result) (a .sizes .now) (a .joined .now) (m .sum-of .ensures) in
     ap taken (rw (r .before .before .before .before .before .before .begun .ensures) at (r .run-frames .ensures)
-    ∙ ap (through (D s) windowSize limits (setOut (going (a .state) (a .pool .now) (a .output .now) (a .lengths .now) (a .numbers .now) (begun (a .place))) (a .places .now) (a .reasons .now) (a .frame))) same)
-    ∙ sym (treated (D s) windowSize (board s) (a .sizes .now) (a .joined .now) (a .frame) (a .place) (lent s) (none-applies (told m)))
+    ∙ ap (through (D s) (w s) limits (setOut (going (a .state) (a .pool .now) (a .output .now) (a .lengths .now) (a .numbers .now) (begun (a .place))) (a .places .now) (a .reasons .now) (a .frame))) same)
+    ∙ sym (treated (D s) (w s) (board s) (a .sizes .now) (a .joined .now) (a .frame) (a .place) (lent s) (none-applies (told m)))
 
 pub receive-burst-spec : {M : Type 1} → statement M
 receive-burst-spec =

@@ -3,11 +3,10 @@ use Prim.Native.Nat.{_-_}
 use native.Mathlib.Omega.{arith}
 use lib.ListN.{length, take, drop}
 use borrow.Author.Needs.{needs}
-use Rattle.window.specs.Window.{windowSize}
 use Rattle.reassembly.specs.Rules.{Answers}
 use Rattle.rows.specs.Message.{orderOf, cellAt}
 use Rattle.messages.specs.Run.{rowStep}
-use Rattle.messages.proofs.Cells.{lent-cell, cell-back, output-back, length-cell, length-part}
+use Rattle.messages.proofs.Cells.{lent-cell, cell-back, output-back, length-cell-in, length-part}
 use Rattle.messages.proofs.Visits.{row-cell}
 use Rattle.messages.proofs.cell_turn.Statement.{statement}
 use Rattle.messages.proofs.cell_turn.Tie as tie
@@ -44,7 +43,7 @@ row-turn-requires c κs =
     let s = c .before .before .before .before .before .before .before in
     let a = s .args in
     let p = s .pre in
-    (p .0, p .1, rw (lent-cell (a .pool .now) (a .v .slot)) (length-cell windowSize (a .pool .now) (p .3) (a .v .slot) (p .2)), rw (length-part (a .output .now) (a .used) (omega arith)) (omega arith))
+    (p .0, p .1, rw (lent-cell (a .pool .now) (a .v .slot)) (length-cell-in (a .pool .now) (a .v .slot) (p .2)), rw (length-part (a .output .now) (a .used) (omega arith)) (omega arith))
 
 same-length : tie.Need-same-length
 same-length c = search needs
@@ -60,7 +59,7 @@ returns c =
     let p = s .pre in
     let o = rowStep (orderOf (a .version)) (a .v .act) (a .content .now) (a .row) (cellAt (a .pool .now) (a .v .slot)) in
     let w : Answers o (take (length (a .output .now) - a .used) (drop (a .used) (a .output .now))) (t .row-turn .result) (t .row-turn .last .1 .1 .1 .0) (t .row-turn .last .1 .1 .1 .1 .1 .0) = rw (lent-cell (a .pool .now) (a .v .slot), t .before .before .before .order-of .ensures) at (t .row-turn .ensures .0) in
-    let long = row-cell (orderOf (a .version)) (a .content .now) (a .row) (cellAt (a .pool .now) (a .v .slot)) (a .v .act) (length-cell windowSize (a .pool .now) (p .3) (a .v .slot) (p .2)) in (
+    let long = row-cell (orderOf (a .version)) (a .content .now) (a .row) (cellAt (a .pool .now) (a .v .slot)) (a .v .act) (length-cell-in (a .pool .now) (a .v .slot) (p .2)) in (
       record {
         row = w .row;
         delivery = w .delivery;

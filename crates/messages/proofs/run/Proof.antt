@@ -8,7 +8,8 @@ use native.Mathlib.Omega.{arith}
 use lib.ListN.{getD, set, length}
 use borrow.Author.Needs.{needs}
 use Rattle.wire.specs.Layout.{read}
-use Rattle.window.specs.Window.{windowSize, sixteen}
+use Rattle.window.specs.Window.{Window, isWindow}
+use Rattle.window.proofs.Sizes.{is-window, window-range}
 use Rattle.pieces.specs.declared.Order.{Order}
 use Rattle.pieces.specs.Pieces.{bundleMax}
 use Rattle.row.specs.Row.{emptyRow}
@@ -21,21 +22,22 @@ use Rattle.rows.specs.Message.{orderOf}
 use Rattle.rows.specs.declared.Origin.{Origin}
 use Rattle.rows.specs.declared.Origin.the-variants.{Whole}
 use Rattle.rows.specs.declared.Visit.{Visit}
-use Rattle.rows.proofs.Rows.{length-mapped, getD-any}
+use Rattle.rows.proofs.Rows.{length-mapped, getD-any, sound-window}
 use Rattle.messages.specs.Run.{progressed, size, Run, going}
 use Rattle.messages.specs.declared.Progress.{Progress}
 use Rattle.messages.proofs.Looping.{goesOn, progressed-next, begins, ends, some-left, never-bad, passed, turned, v, at<, treated<, count<, room, place, slot<, fits, admit, found-sound, handed-fits, Going, Turn}
+use Rattle.messages.proofs.Cells.{cell-within}
 use Rattle.messages.proofs.Visits.{visited, rowsFor, rows-for-full, cleared, cleared-some, cleared-none, opened, opened-some, opened-none}
 use Rattle.messages.proofs.run.Statement.{statement}
 use Rattle.messages.proofs.run.Tie as tie
 
 abbrev Inv-loop : tie.InvT-loop
-Inv-loop pool₀ frame output₀ lengths₀ numbers₀ limits settings version present₀ greatest₀ rows₀ progress₀ pool output lengths numbers present greatest rows progress =
+Inv-loop pool₀ frame output₀ lengths₀ numbers₀ limits settings version window present₀ greatest₀ rows₀ progress₀ pool output lengths numbers present greatest rows progress =
     Going limits frame (going (record { present = present₀; greatest = greatest₀; rows = rows₀; settings = settings }) pool₀ output₀ lengths₀ numbers₀ progress₀)
     (going (record { present = present; greatest = greatest; rows = rows; settings = settings }) pool output lengths numbers progress)
 
 abbrev μ-loop : tie.MeasureT-loop
-μ-loop pool₀ frame output₀ lengths₀ numbers₀ limits settings version present₀ greatest₀ rows₀ progress₀ pool output lengths numbers present greatest rows progress = length frame - progress .next
+μ-loop pool₀ frame output₀ lengths₀ numbers₀ limits settings version window present₀ greatest₀ rows₀ progress₀ pool output lengths numbers present greatest rows progress = length frame - progress .next
 
 -- ---- the beginning
 
@@ -49,6 +51,12 @@ module _ (c : tie.Start Inv-loop μ-loop) where
   low : c .args .state .greatest < 2 ^ 32
   low = search needs
 
+  win : Window (c .args .state .settings .window)
+  win = sound-window (c .args .state) (c .pre .0 .sound)
+
+  range : (4 ≤ c .args .state .settings .window) × (c .args .state .settings .window ≤ 16)
+  range = window-range _ win
+
   limits : (c .args .limits .messages < 2 ^ 64) × (c .args .limits .bundles < 2 ^ 64) × (length (c .args .output .now) < 2 ^ 64)
   limits = search needs
 
@@ -57,6 +65,9 @@ module _ (c : tie.Start Inv-loop μ-loop) where
 module _ (c : tie.At-loop Inv-loop μ-loop) where
   abbrev start : tie.Start Inv-loop μ-loop
   start = c .before .before .before .before .before .before .before .before
+
+  abbrev w : ℕ
+  w = start .args .state .settings .window
 
   abbrev order : Order
   order = orderOf (start .args .state .settings .version)
@@ -99,14 +110,18 @@ module _ (c : tie.After-visit-of Inv-loop μ-loop) where
   abbrev known : tie.After-known-told Inv-loop μ-loop
   known = c .before .before .before
 
-  slot-below : c .visit-of .result .slot < 16
-  slot-below = rw (c .visit-of .ensures) (slot< (turn known))
+  slot-in : c .visit-of .result .slot < w (here known)
+  slot-in = omega (arith, ap (λ (x : Visit). x .slot) (c .visit-of .ensures), slot< (turn known))
 
-joined2 : (c : tie.Joined2 Inv-loop μ-loop) → let x = c .before .before in c .if2 .rows ≡ cleared windowSize (here (known x) .loop .greatest) (x .visit-of .result .entered) (here (known x) .loop .rows)
+  slot-below : c .visit-of .result .slot < 16
+  slot-below = omega (arith, slot-in, range (start (here known)))
+
+joined2 : (c : tie.Joined2 Inv-loop μ-loop) → let x = c .before .before in c .if2 .rows ≡ cleared (w (here (known x))) (here (known x) .loop .greatest) (x .visit-of .result .entered) (here (known x) .loop .rows)
 joined2 c =
     let l = here (known (c .before .before)) .loop in
     let d = c .before .before .visit-of .result .entered in
-    ⊎-elim (λ w. w .2 ∙ w .1 .ensures ∙ cleared-some windowSize (l .greatest) d (l .rows) (w .0 .taken)) (λ w. w .1 ∙ cleared-none windowSize (l .greatest) d (l .rows) (w .0 .left)) (c .if2 .came)
+    let n = w (here (known (c .before .before))) in
+    ⊎-elim (λ x. x .2 ∙ x .1 .ensures ∙ cleared-some n (l .greatest) d (l .rows) (x .0 .taken)) (λ x. x .1 ∙ cleared-none n (l .greatest) d (l .rows) (x .0 .left)) (c .if2 .came)
 
 module _ (c : tie.Joined3 Inv-loop μ-loop) where
   abbrev seen : tie.After-visit-of Inv-loop μ-loop
@@ -115,7 +130,7 @@ module _ (c : tie.Joined3 Inv-loop μ-loop) where
   abbrev goal : Visit
   goal = seen .visit-of .result
 
-  joined3 : c .if3 .rows ≡ rowsFor windowSize (order (here (known seen))) (now (here (known seen)) .board) goal
+  joined3 : c .if3 .rows ≡ rowsFor (w (here (known seen))) (order (here (known seen))) (now (here (known seen)) .board) goal
   joined3 =
       let rows = c .before .before .if2 .rows in
       ⊎-elim (λ w. w .2 ∙ ap (set rows (goal .slot)) (w .1 .ensures) ∙ opened-some (goal .slot) (goal .entered) rows (w .0 .taken)) (λ w. w .1 ∙ opened-none (goal .slot) (goal .entered) rows (w .0 .left)) (c .if3 .came)
@@ -125,10 +140,13 @@ module _ (c : tie.Joined3 Inv-loop μ-loop) where
   row = getD (c .if3 .rows) (goal .slot) (record { phase = Free; known = false; last = 0; held = 0; indexes = []; lengths = [] })
 
   row-found : row ≡ getD (c .if3 .rows) (goal .slot) (emptyRow Free)
-  row-found = getD-any (c .if3 .rows) (goal .slot) _ (emptyRow Free) (omega (arith, slot-below seen, ap length joined3, rows-for-full windowSize sixteen (order (here (known seen))) (now (here (known seen)) .board) (here (known seen) .loop .inv .ready) goal))
+  row-found =
+      let h : tie.At-loop Inv-loop μ-loop = here (known seen) in
+      let wide : w h ≤ length (now h .board .state .rows) = h .loop .inv .ready .rows in
+      getD-any (c .if3 .rows) (goal .slot) _ (emptyRow Free) (omega (arith, slot-in seen, wide, ap length joined3, rows-for-full (w h) (win (start h)) (order h) (now h .board) (h .loop .inv .ready) goal))
 
-  row-is : row ≡ visited windowSize (order (here (known seen))) (now (here (known seen)) .board) (v (turn (known seen)))
-  row-is = row-found ∙ ap (λ (rows : List Row). getD rows (goal .slot) (emptyRow Free)) joined3 ∙ ap (visited windowSize (order (here (known seen))) (now (here (known seen)) .board)) (seen .visit-of .ensures)
+  row-is : row ≡ visited (w (here (known seen))) (order (here (known seen))) (now (here (known seen)) .board) (v (turn (known seen)))
+  row-is = row-found ∙ ap (λ (rows : List Row). getD rows (goal .slot) (emptyRow Free)) joined3 ∙ ap (visited (w (here (known seen))) (order (here (known seen))) (now (here (known seen)) .board)) (seen .visit-of .ensures)
 
   low-after : goal .greatest < 2 ^ 32
   low-after = search needs
@@ -149,7 +167,7 @@ module _ (c : tie.After-cell-turn Inv-loop μ-loop) where
 -- ---- the needs
 
 loop-holds : tie.Need-loop-holds Inv-loop μ-loop
-loop-holds c = let s = c .before .before .before .before .before .before .before in begins (s .args .limits) (s .args .frame .now) (first s) (s .pre .0) (s .pre .2) (full s) (low s)
+loop-holds c = let s = c .before .before .before .before .before .before .before in begins (s .args .limits) (s .args .frame .now) (first s) (s .pre .0) (s .pre .2) (omega (arith, range s, full s)) (low s)
 
 more-requires : tie.Need-more-requires Inv-loop μ-loop
 more-requires c κs = let g = c .loop .inv in omega (arith, g .output, g .used)
@@ -185,10 +203,10 @@ part-content-end : tie.Need-part-content-end Inv-loop μ-loop
 part-content-end c = let l = place (turn (c .before)) in omega (arith, l .ordered, l .within)
 
 visit-of-requires : tie.Need-visit-of-requires Inv-loop μ-loop
-visit-of-requires c κs = fits (turn (c .before .before))
+visit-of-requires c κs = let h = c .before .before in (is-window _ (win (start (here h))), fits (turn h))
 
 freed-requires : tie.Need-freed-requires Inv-loop μ-loop
-freed-requires c κs = search needs
+freed-requires c κs = is-window _ (win (start (here (known (c .before .before)))))
 
 empty-row-requires : tie.Need-empty-row-requires Inv-loop μ-loop
 empty-row-requires c κs = search needs
@@ -209,7 +227,7 @@ cell-turn-requires : tie.Need-cell-turn-requires Inv-loop μ-loop
 cell-turn-requires c κs =
     let f = c .before .before .before in
     let h = known (seen f) in
-    (rw (row-is f) (found-sound (turn h)), rw (seen f .visit-of .ensures) (admit (turn h) (small h)), slot-below (seen f), here h .loop .inv .ready .pool, room (turn h))
+    (rw (row-is f) (found-sound (turn h)), rw (seen f .visit-of .ensures) (admit (turn h) (small h)), cell-within (w (here h)) (here h .loop .pool) (here h .loop .inv .ready .pool) (goal f .slot) (slot-in (seen f)), room (turn h))
 
 mul-rows-2 : tie.Need-mul-rows-2 Inv-loop μ-loop
 mul-rows-2 c = omega (arith, slot-below (seen (found (c .before .before .before .before .before))))

@@ -1,9 +1,10 @@
 -- `receiver::receive` meets its contract.
 use mathlib.Core.Option.{Option, none}
 use mathlib.Core.Path.{_≡_, sym, ap, _∙_}
+use Prim.Native.Nat.{ℕ}
 use native.Mathlib.Omega.{arith}
 use Rattle.wire.proofs.Spans.{sized}
-use Rattle.window.specs.Window.{windowSize}
+use Rattle.rows.specs.State.{windowOf}
 use Rattle.rows.specs.Message.{Draft, draftOf, Board, messagesFrom}
 use Rattle.receiver.specs.Receive.{refusal}
 use Rattle.receiver.specs.declared.Refusal.{Refusal}
@@ -21,8 +22,11 @@ module _ (c : tie.Start) where
   abbrev D : Draft
   D = draftOf (c .args .state)
 
+  abbrev w : ℕ
+  w = windowOf (c .args .state)
+
   abbrev refusalAt : Option Refusal
-  refusalAt = refusal D windowSize board (c .args .frame .now) (c .args .place) (c .args .output .now)
+  refusalAt = refusal D w board (c .args .frame .now) (c .args .place) (c .args .output .now)
 
 admit-requires : tie.Need-admit-requires
 admit-requires c κs = search needs
@@ -39,7 +43,7 @@ same-length-2 c = search needs
 returns : tie.Need-returns
 returns c =
     let s = c .before .before .before .before .before .before .before .before .before in
-    sym (refused (D s) windowSize (board s) (s .args .frame .now) (s .args .place) (s .args .output .now) _ (denied (refusalAt s) _ (sym (c .before .before .before .admit .ensures) ∙ c .before .a .given .1)))
+    sym (refused (D s) (w s) (board s) (s .args .frame .now) (s .args .place) (s .args .output .now) _ (denied (refusalAt s) _ (sym (c .before .before .before .admit .ensures) ∙ c .before .a .given .1)))
 
 enum-told : tie.Need-enum-told
 enum-told c = search needs
@@ -61,8 +65,8 @@ module _ (c : tie.After-enum-told) where
   none-applies : refusalAt start ≡ none
   none-applies = admitted (refusalAt start) (sym (c .before .before .admit .ensures) ∙ c .enum-told .given .1)
 
-  admitting : Admits (D start) windowSize (board start) (start .args .frame .now) (start .args .place) (start .args .output .now)
-  admitting = admits (D start) windowSize (board start) (start .args .frame .now) (start .args .place) (start .args .output .now) none-applies
+  admitting : Admits (D start) (w start) (board start) (start .args .frame .now) (start .args .place) (start .args .output .now)
+  admitting = admits (D start) (w start) (board start) (start .args .frame .now) (start .args .place) (start .args .output .now) none-applies
 
 run-requires : tie.Need-run-requires
 run-requires c κs =
@@ -88,8 +92,8 @@ returns-2 c =
     let f = admitting told in
     rw (c .answer-of .ensures)
     (ap replyOf (rw (begun .ensures) at (r .ensures .0))
-    ∙ one-bundle (D s) windowSize _ _ _ 0 (board s) (messagesFrom (D s) (a .frame .now) (a .place)) (a .output .now) (a .place) Whole (f .room) (omega (arith, few-messages (D s) (sized (a .state .settings .version)) (a .frame .now) (a .place) (f .frame-fit .accepted), f .frame-fit .small))
-    ∙ sym (treated (D s) windowSize (board s) (a .frame .now) (a .place) (a .output .now) (none-applies told)))
+    ∙ one-bundle (D s) (w s) _ _ _ 0 (board s) (messagesFrom (D s) (a .frame .now) (a .place)) (a .output .now) (a .place) Whole (f .room) (omega (arith, few-messages (D s) (sized (a .state .settings .version)) (a .frame .now) (a .place) (f .frame-fit .accepted), f .frame-fit .small))
+    ∙ sym (treated (D s) (w s) (board s) (a .frame .now) (a .place) (a .output .now) (none-applies told)))
 
 pub receive-spec : {M : Type 1} → statement M
 receive-spec =

@@ -24,7 +24,7 @@ enum-told-3 : tie.Need-enum-told-3
 enum-told-3 c = search needs
 
 number-at-requires : tie.Need-number-at-requires
-number-at-requires c κs = omega (arith, segment-long (c .before .before .before .args .kind) (length (c .before .before .before .args .content .now)) (c .before .before .before .pre) (c .enum-told3 .given .1))
+number-at-requires c κs = omega (arith, segment-long (c .before .before .before .args .kind) (length (c .before .before .before .args .content .now)) (c .before .before .before .pre .1) (c .enum-told3 .given .1))
 
 transfer-visit-requires : tie.Need-transfer-visit-requires
 transfer-visit-requires c κs = search needs
@@ -33,7 +33,7 @@ enum-told-4 : tie.Need-enum-told-4
 enum-told-4 c = search needs
 
 number-at-requires-2 : tie.Need-number-at-requires-2
-number-at-requires-2 c κs = omega (arith, end-long (c .before .before .before .args .kind) (length (c .before .before .before .args .content .now)) (c .before .before .before .pre) (c .enum-told4 .given .1))
+number-at-requires-2 c κs = omega (arith, end-long (c .before .before .before .args .kind) (length (c .before .before .before .args .content .now)) (c .before .before .before .pre .1) (c .enum-told4 .given .1))
 
 transfer-visit-requires-2 : tie.Need-transfer-visit-requires-2
 transfer-visit-requires-2 c κs = search needs
@@ -42,7 +42,7 @@ enum-told-5 : tie.Need-enum-told-5
 enum-told-5 c = search needs
 
 number-at-requires-3 : tie.Need-number-at-requires-3
-number-at-requires-3 c κs = omega (arith, cancel-long (c .before .before .before .args .kind) (length (c .before .before .before .args .content .now)) (c .before .before .before .pre) (c .enum-told5 .given .1))
+number-at-requires-3 c κs = omega (arith, cancel-long (c .before .before .before .args .kind) (length (c .before .before .before .args .content .now)) (c .before .before .before .pre .1) (c .enum-told5 .given .1))
 
 transfer-visit-requires-3 : tie.Need-transfer-visit-requires-3
 transfer-visit-requires-3 c κs = search needs

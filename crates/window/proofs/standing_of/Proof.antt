@@ -1,7 +1,10 @@
--- `window::standing_of` meets its contract. Assumes nothing.
+-- `window::standing_of` meets its contract.
+use Prim.Native.Nat.{_≤_}
 use mathlib.Core.Path.{ap, _∙_}
+use native.Mathlib.Omega.{arith}
+use Rattle.window.specs.Window.{standing, standingOf}
+use Rattle.window.proofs.Sizes.{window-of, window-range}
 use borrow.Author.Needs.{needs}
-use Rattle.window.specs.Window.{windowSize, standing, standingOf}
 use Rattle.window.proofs.standing_of.Statement.{statement}
 use Rattle.window.proofs.standing_of.Tie as tie
 
@@ -9,11 +12,11 @@ distance-requires : tie.Need-distance-requires
 distance-requires c κs = search needs
 
 standing-at-requires : tie.Need-standing-at-requires
-standing-at-requires c κs = search needs
+standing-at-requires c κs = let r : (4 ≤ c .before .before .args .window) × (c .before .before .args .window ≤ 16) = window-range _ (window-of _ (c .before .before .pre)) in (omega arith, r .1)
 
 returns : tie.Need-returns
 unfolding standingOf
-returns c = rw (c .before .before .if1 .taken) (c .standing-at .ensures ∙ ap (standing windowSize) (c .before .distance .ensures))
+returns c = rw (c .before .before .if1 .taken) (c .standing-at .ensures ∙ ap (standing _) (c .before .distance .ensures))
 
 returns-2 : tie.Need-returns-2
 unfolding standingOf

@@ -13,9 +13,6 @@ element-copy-out-head-2 c = search needs
 element-copy-out-head-3 : tie.Need-element-copy-out-head-3
 element-copy-out-head-3 c = search needs
 
-element-copy-out-head-4 : tie.Need-element-copy-out-head-4
-element-copy-out-head-4 c = search needs
-
 are-rows-requires : tie.Need-are-rows-requires
 are-rows-requires c κs = search needs
 
@@ -30,6 +27,5 @@ is-image-spec =
     element-copy-out-head
     element-copy-out-head-2
     element-copy-out-head-3
-    element-copy-out-head-4
     are-rows-requires
     returns)

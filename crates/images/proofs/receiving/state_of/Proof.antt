@@ -18,7 +18,7 @@ Inv-loop image state₀ k₀ state k =
     × (length (state .rows) ≡ 16)
     × (state .present ≡ eqb (getD image 0 0) 1)
     × (state .greatest ≡ number (drop 4 image))
-    × (state .settings .version ≡ versionOf (getD image 2 0))
+    × (state .settings ≡ record { version = versionOf (getD image 2 0); window = getD image 1 0 })
 
 abbrev μ-loop : tie.MeasureT-loop
 μ-loop image state₀ k₀ state k = 16 - k
@@ -38,9 +38,15 @@ element-copy-out-t9 c = search needs
 number-at-requires : tie.Need-number-at-requires Inv-loop μ-loop
 number-at-requires c κs = search needs
 
+element-copy-out-octet : tie.Need-element-copy-out-octet Inv-loop μ-loop
+element-copy-out-octet c = search needs
+
+octet-requires : tie.Need-octet-requires Inv-loop μ-loop
+octet-requires c κs = search needs
+
 loop-holds : tie.Need-loop-holds Inv-loop μ-loop
 unfolding rowsOf
-loop-holds c = (omega arith, refl, refl, refl, c .number-at .ensures, c .before .before .before .version-of .ensures)
+loop-holds c = (omega arith, refl, refl, refl, c .before .before .number-at .ensures, rw (c .before .before .before .before .before .version-of .ensures, c .octet .ensures .0))
 
 mul-row-of : tie.Need-mul-row-of Inv-loop μ-loop
 mul-row-of c = omega arith
@@ -51,8 +57,8 @@ add-row-of c = omega arith
 row-of-requires : tie.Need-row-of-requires Inv-loop μ-loop
 row-of-requires c κs = omega arith
 
-mul-t24 : tie.Need-mul-t24 Inv-loop μ-loop
-mul-t24 c = omega arith
+mul-t28 : tie.Need-mul-t28 Inv-loop μ-loop
+mul-t28 c = omega arith
 
 element-set-from-state : tie.Need-element-set-from-state Inv-loop μ-loop
 element-set-from-state c = omega arith
@@ -81,11 +87,13 @@ state-of-spec =
     version-of-requires
     element-copy-out-t9
     number-at-requires
+    element-copy-out-octet
+    octet-requires
     loop-holds
     mul-row-of
     add-row-of
     row-of-requires
-    mul-t24
+    mul-t28
     element-set-from-state
     add-k
     loop-less
