@@ -16,6 +16,17 @@
  * Set receivers and senders of one link to the same draft. A recording has no draft, and a playback
  * is always of draft 02.
  *
+ * Windows. A receiver keeps the greatest transfer number that it has seen and the numbers before
+ * it, 4, 8 or 16 in all: its window. So many transfers may be under way at a time, their pieces in
+ * any order. Nothing is handed out of a transfer that is further behind the greatest number than
+ * the window less one: what comes of it is passed over without a word, and pieces of it that were
+ * held are lost. A smaller window takes less memory, since the pool has 4,096 octets for each
+ * transfer of it. In return fewer transfers may be mixed, and a piece that was lost must be
+ * repeated sooner: with a window of 4 before the fourth transfer after its own begins. The window
+ * is chosen by the receiver's start, 8 where it names none, and kept in the image; all calls with
+ * that image go by it. Receivers of one link may have different windows. A sender has none, and
+ * sends one transfer after the other. A playback always has a window of 16.
+ *
  * Memory. The library allocates nothing and keeps nothing. The caller lends every octet for the
  * time of a call: the image of the state, the pool, the frame, the output. What is lent must be
  * valid for the length given, or for the length in its declaration, and what a call may write to
@@ -39,11 +50,11 @@
  * Receiver image, BTPU_RECEIVER_IMAGE octets:
  *
  *     octet    0        1 if a greatest transfer number is known, else 0
- *     octet    1        zero
+ *     octet    1        the window: 4, 8 or 16
  *     octet    2        1 for draft 00, 0 for draft 02
  *     octet    3        zero
  *     octets   4 to 7   the greatest transfer number so far; zero if none is known
- *     then, for each of 16 rows, 196 octets; transfer number n has row n modulo 16:
+ *     then, for each of 16 rows, 196 octets; transfer number n has row n modulo the window:
  *       octet  0        phase: 0 Free, 1 Open, 2 Done, 3 Cancelled, 4 Given up
  *       octet  1        1 if the highest index is known, that of the end, in draft 00 of the
  *                       start; else 0
@@ -51,9 +62,13 @@
  *       octet  3        number of pieces held
  *       octets 4 to 67  the index of each piece held, in order of arrival; then zeros
  *       octets 68 to 195  the length of each piece held, two octets each; then zeros
- *     In a row that is not Open all octets after the phase are zero.
+ *     In a row that is not Open all octets after the phase are zero. Rows from the window on belong
+ *     to no transfer: all their octets are zero.
  *
  * The data of row r lie in the pool from octet 4,096 times r on, in order of arrival.
+ *
+ * An image that was stored before windows could be chosen has zero in octet 1, and is refused with
+ * 1. Its window was 16: a host that writes 16 there goes on with it, and with its pool.
  *
  * Sender image, BTPU_SENDER_IMAGE octets:
  *
@@ -89,7 +104,7 @@ extern "C" {
 
 #define BTPU_RECEIVER_IMAGE 3144
 #define BTPU_SENDER_IMAGE 24
-#define BTPU_POOL 65536
+#define BTPU_POOL(window) (UINT32_C(4096) * (window)) /* of a receiver with this window */
 #define BTPU_MIN_OUTPUT 4096
 #define BTPU_MAX_BUNDLE 4096
 #define BTPU_MAX_FRAME 2048
@@ -98,6 +113,12 @@ extern "C" {
 #define BTPU_MAX_RECORDING 63496
 #define BTPU_STACK 73728
 #define BTPU_PLAY_STACK 139264
+
+/* Windows: 4, 8 or 16 transfers */
+
+#define BTPU_PLAIN_WINDOW 8 /* of btpu_receiver_start */
+#define BTPU_MAX_WINDOW 16
+#define BTPU_PLAY_WINDOW 16 /* of btpu_play */
 
 /* What a burst has at most: frames, and bundles handed out */
 
@@ -112,9 +133,10 @@ extern "C" {
 
 /* Octets of an image that a host may look at */
 
-#define BTPU_RECEIVER_DRAFT 2 /* 1 for draft 00, 0 for draft 02 */
-#define BTPU_SENDER_BEGUN 8   /* 1 if a transfer is begun, else 0 */
-#define BTPU_SENDER_DRAFT 9   /* 1 for draft 00, 0 for draft 02 */
+#define BTPU_RECEIVER_WINDOW 1 /* 4, 8 or 16 */
+#define BTPU_RECEIVER_DRAFT 2  /* 1 for draft 00, 0 for draft 02 */
+#define BTPU_SENDER_BEGUN 8    /* 1 if a transfer is begun, else 0 */
+#define BTPU_SENDER_DRAFT 9    /* 1 for draft 00, 0 for draft 02 */
 
 /* Entries of a result */
 
@@ -172,8 +194,8 @@ extern "C" {
  */
 
 #define BTPU_REFUSED_STATE 1         /* not a sound state: all calls with an image but the starts */
-#define BTPU_REFUSED_LENT 2          /* receive, receive_burst: pool not 65,536 octets, or output
-                                        below 4,096; play: pool not 65,536 octets */
+#define BTPU_REFUSED_LENT 2          /* receive, receive_burst: pool not 4,096 octets times the
+                                        window, or output below 4,096; play: pool not 65,536 */
 #define BTPU_REFUSED_FRAME_LENGTH 3  /* receive: frame of 0 or more than 2,048 octets;
                                         receive_burst: more than 64 frames */
 #define BTPU_REFUSED_HEADER 4        /* receive: fewer than 4 octets left for a header */
@@ -197,20 +219,28 @@ extern "C" {
 #define BTPU_REFUSED_OCTET_COUNT 19  /* the same, and receive_burst: the octets are not the sum of
                                         the lengths */
 #define BTPU_REFUSED_LEFT_OVER 20    /* recording_open, play: octets behind the recording */
+#define BTPU_REFUSED_WINDOW 21       /* receiver's start: window not 4, 8 or 16 */
 #define BTPU_REFUSED_SHORT_OUTPUT 24 /* record: output too short; play: an output or a list has
                                         fewer entries than btpu_play asks for */
 
 /*
- * Writes the image of a fresh receiver of draft 02. The old content of the image does not matter.
+ * Writes the image of a fresh receiver of draft 02 with a window of BTPU_PLAIN_WINDOW. The old
+ * content of the image does not matter.
  * Refusals: none.
  */
 uint32_t btpu_receiver_start(uint8_t state[BTPU_RECEIVER_IMAGE]);
 
 /*
- * The same for a receiver of draft 00.
- * Refusals: none.
+ * The same with a window of 4, 8 or 16.
+ * Refusal: 21.
  */
-uint32_t btpu_receiver_start_00(uint8_t state[BTPU_RECEIVER_IMAGE]);
+uint32_t btpu_receiver_start_window(uint8_t state[BTPU_RECEIVER_IMAGE], uint32_t window);
+
+/*
+ * The same for a receiver of draft 00.
+ * Refusal: 21.
+ */
+uint32_t btpu_receiver_start_00(uint8_t state[BTPU_RECEIVER_IMAGE], uint32_t window);
 
 /*
  * Whether an image is a sound state, for a host that restores a stored one.
@@ -231,8 +261,9 @@ uint32_t btpu_receiver_check(const uint8_t state[BTPU_RECEIVER_IMAGE]);
  *                  number or BTPU_NO_NUMBER. A bundle may have length 0.
  *   BTPU_FINISHED  no bundle up to the frame's end; output and other entries of result stay.
  *
- * The pool has BTPU_POOL octets, of any content at first, and belongs to this receiver: hand it
- * back as it was left. The output has at least BTPU_MIN_OUTPUT octets.
+ * The pool has exactly BTPU_POOL(state[BTPU_RECEIVER_WINDOW]) octets, of any content at first, and
+ * belongs to this receiver: hand it back as it was left. The output has at least BTPU_MIN_OUTPUT
+ * octets.
  * Refusals: 1 to 9, but never 5, and 7 only in draft 02.
  */
 uint32_t btpu_receive(uint8_t state[BTPU_RECEIVER_IMAGE], uint8_t *pool, uint64_t pool_len,
@@ -340,9 +371,10 @@ uint32_t btpu_recording_open(const uint8_t *recording, uint64_t recording_len,
                              uint16_t sizes[BTPU_RECORDED_FRAMES], uint64_t result[BTPU_RESULT]);
 
 /*
- * Plays a recording on a fresh receiver of draft 02, until `limit` messages are treated or all
- * are. It may stop inside a frame; a frame behind the last message is not looked at. Every message
- * counts, a run of padding as one; a refused frame has none.
+ * Plays a recording on a fresh receiver of draft 02 with a window of BTPU_PLAY_WINDOW, until
+ * `limit` messages are treated or all are. It may stop inside a frame; a frame behind the last
+ * message is not looked at. Every message counts, a run of padding as one; a refused frame has
+ * none.
  *
  * The bundles go one behind another to the front of the output, their lengths to the front of
  * lengths; for each frame refused, its place in the recording, from 0, goes to places and the
@@ -350,9 +382,9 @@ uint32_t btpu_recording_open(const uint8_t *recording, uint64_t recording_len,
  * BTPU_PLAYED_... of result say how many there are of each. The pool is left as btpu_receive
  * would leave it.
  *
- * The pool has BTPU_POOL octets. At least BTPU_RECORDED_OCTETS octets of output,
- * BTPU_PLAYED_BUNDLES lengths, and BTPU_RECORDED_FRAMES places and reasons are asked for: every
- * recording has room in them.
+ * The pool has exactly BTPU_POOL(BTPU_PLAY_WINDOW) octets. At least BTPU_RECORDED_OCTETS octets of
+ * output, BTPU_PLAYED_BUNDLES lengths, and BTPU_RECORDED_FRAMES places and reasons are asked for:
+ * every recording has room in them.
  * Refusals: 16 to 20 as btpu_recording_open gives them; then 2; then 24.
  */
 uint32_t btpu_play(const uint8_t *recording, uint64_t recording_len, uint64_t limit, uint8_t *pool,

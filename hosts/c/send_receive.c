@@ -16,10 +16,12 @@
 #define BUNDLE_LENGTH 3000
 #define FRAME_SIZE 512
 #define FIRST_NUMBER 7
+/* 4, 8 or 16: the smallest suffices, since one transfer alone is under way */
+#define WINDOW 4
 
 struct link_end {
     uint8_t image[BTPU_RECEIVER_IMAGE];
-    uint8_t pool[BTPU_POOL];
+    uint8_t pool[BTPU_POOL(WINDOW)];
     uint8_t output[BTPU_MIN_OUTPUT];
     unsigned frames;
     unsigned bundles;
@@ -59,11 +61,30 @@ static int take_frame(const uint8_t *frame)
     }
 }
 
+/* Sends the bundle, and hands each frame to the receiving end. */
+static int send_bundle(uint8_t sender[BTPU_SENDER_IMAGE], uint8_t frame[FRAME_SIZE])
+{
+    uint64_t result[BTPU_RESULT] = {0, 0, 0, 0};
+    uint32_t returned;
+
+    do {
+        returned = btpu_place(sender, bundle, sizeof bundle, frame, FRAME_SIZE, result);
+        if (returned != 0)
+            return fail("btpu_place", returned);
+        if (result[BTPU_ANSWER] != BTPU_PLACED && take_frame(frame) != 0)
+            return 1;
+    } while (result[BTPU_ANSWER] == BTPU_READY || sender[BTPU_SENDER_BEGUN] != 0);
+
+    returned = btpu_flush(sender, frame, FRAME_SIZE, result);
+    if (returned != 0)
+        return fail("btpu_flush", returned);
+    return result[BTPU_ANSWER] == BTPU_READY ? take_frame(frame) : 0;
+}
+
 int main(void)
 {
     uint8_t sender[BTPU_SENDER_IMAGE];
     uint8_t frame[FRAME_SIZE];
-    uint64_t result[BTPU_RESULT] = {0, 0, 0, 0};
     uint32_t returned;
     size_t i;
 
@@ -71,23 +92,13 @@ int main(void)
         bundle[i] = (uint8_t)(37 * i + i / 256);
     memset(frame, 0, sizeof frame);
 
-    btpu_receiver_start(end.image);
+    returned = btpu_receiver_start_window(end.image, WINDOW);
+    if (returned != 0)
+        return fail("btpu_receiver_start_window", returned);
     returned = btpu_sender_start(sender, FRAME_SIZE, FIRST_NUMBER);
     if (returned != 0)
         return fail("btpu_sender_start", returned);
-
-    do {
-        returned = btpu_place(sender, bundle, sizeof bundle, frame, sizeof frame, result);
-        if (returned != 0)
-            return fail("btpu_place", returned);
-        if (result[BTPU_ANSWER] != BTPU_PLACED && take_frame(frame) != 0)
-            return 1;
-    } while (result[BTPU_ANSWER] == BTPU_READY || sender[BTPU_SENDER_BEGUN] != 0);
-
-    returned = btpu_flush(sender, frame, sizeof frame, result);
-    if (returned != 0)
-        return fail("btpu_flush", returned);
-    if (result[BTPU_ANSWER] == BTPU_READY && take_frame(frame) != 0)
+    if (send_bundle(sender, frame) != 0)
         return 1;
 
     if (end.bundles != 1) {
