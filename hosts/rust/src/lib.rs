@@ -51,6 +51,21 @@
 //! # Ok::<(), btpu::Refusal>(())
 //! ```
 //!
+//! # Windows
+//!
+//! A receiver keeps the transfers with the greatest number that it has seen and with the numbers before it,
+//! its *window*: 8 of them, or 4 or 16 if it is made by [`Receiver::with_window`]. Each takes 4,096 octets of
+//! memory. Pieces of older transfers are passed over without a word, and what was held of a transfer that
+//! falls out of the window is lost. [`WindowSize`] says what a small window costs.
+//!
+//! ```
+//! use btpu::{Draft, Receiver, WindowSize};
+//!
+//! let receiver = Receiver::with_window(Draft::Draft02, WindowSize::Four);
+//! assert_eq!(receiver.window_size(), WindowSize::Four);
+//! assert_eq!(Receiver::new().window_size(), WindowSize::Eight);
+//! ```
+//!
 //! # Refusals
 //!
 //! A call that cannot be carried out is refused with a [`Refusal`]: it changes nothing, and the receiver
@@ -61,11 +76,9 @@
 //! # Transfer numbers
 //!
 //! A bundle sent in pieces is a *transfer*, with a number. A sender counts them up, from the first number
-//! that it is given, and goes on with 0 after 4,294,967,295. A receiver keeps the 16 transfers up to the
-//! greatest number it has seen, its *window*; pieces of older ones are passed over, and the room of a
-//! transfer that falls out of the window unfinished is used anew. A number must therefore not be used
-//! again within the window: not by a sender after a restart, nor by two senders on one link. A bundle that
-//! has room in one frame is sent whole, and takes no number.
+//! that it is given, and goes on with 0 after 4,294,967,295. A number must not be used again within the
+//! window of a receiver: not by a sender after a restart, nor by two senders on one link. A bundle that has
+//! room in one frame is sent whole, and takes no number.
 //!
 //! # Restarts
 //!
@@ -99,6 +112,7 @@ mod recording;
 mod refusal;
 mod sender;
 mod window;
+mod window_size;
 
 pub use draft::Draft;
 pub use receiver::{Bundle, Bundles, Burst, Receiver};
@@ -106,3 +120,4 @@ pub use recording::{Playback, Recording, RefusedFrame};
 pub use refusal::{Refusal, RestoreError};
 pub use sender::{Sender, Sent};
 pub use window::{Phase, Piece, Row, Window};
+pub use window_size::WindowSize;

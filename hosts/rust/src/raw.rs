@@ -9,8 +9,14 @@
 pub const RECEIVER_IMAGE: usize = 3144;
 /// Octets of a sender's image.
 pub const SENDER_IMAGE: usize = 24;
-/// Octets of a receiver's pool.
-pub const POOL: usize = 65_536;
+/// Octets of a receiver's pool for each transfer of its window.
+pub const POOL_PER_ROW: usize = 4096;
+/// The window of [`receiver_start`].
+pub const PLAIN_WINDOW: u32 = 8;
+/// The greatest window.
+pub const MAX_WINDOW: u32 = 16;
+/// The window of [`play`].
+pub const PLAY_WINDOW: u32 = 16;
 /// Octets of output that [`receive`] and [`receive_burst`] ask for at least.
 pub const MIN_OUTPUT: usize = 4096;
 /// Octets of a bundle at most.
@@ -21,6 +27,8 @@ pub const MAX_FRAME: usize = 2048;
 pub const MIN_FRAME_SIZE: usize = 128;
 /// The greatest frame size of a sender.
 pub const MAX_FRAME_SIZE: usize = 2048;
+/// The octet of a receiver's image that has its window: 4, 8 or 16.
+pub const RECEIVER_WINDOW: usize = 1;
 /// The octet of a receiver's image that has its draft: 1 for draft 00, 0 for draft 02.
 pub const RECEIVER_DRAFT: usize = 2;
 /// The octet of a sender's image that tells whether a transfer is begun: 1 if so, else 0.
@@ -44,6 +52,11 @@ pub const MAX_RECORDING: usize = 63_496;
 /// Bundles that come out of a playback at most.
 pub const PLAYED_BUNDLES: usize = 15_360;
 
+/// Octets of the pool of a receiver with this window.
+pub const fn pool(window: u32) -> usize {
+    POOL_PER_ROW * window as usize
+}
+
 /// Where the bundles of a burst go: their octets, the length of each, and its transfer number or
 /// [`NO_NUMBER`].
 pub type BurstBundles<'a> = (
@@ -58,7 +71,8 @@ pub type BurstNotes<'a> = (&'a mut [u32; BURST_FRAMES], &'a mut [u32; BURST_FRAM
 mod exported {
     extern "C" {
         pub fn btpu_receiver_start(state: *mut u8) -> u32;
-        pub fn btpu_receiver_start_00(state: *mut u8) -> u32;
+        pub fn btpu_receiver_start_window(state: *mut u8, window: u32) -> u32;
+        pub fn btpu_receiver_start_00(state: *mut u8, window: u32) -> u32;
         pub fn btpu_receiver_check(state: *const u8) -> u32;
         pub fn btpu_receive(
             state: *mut u8,
@@ -141,16 +155,22 @@ mod exported {
 // valid during the call for the lengths given, or declared in the header; writable ones come from exclusive
 // borrows, so that none of them overlaps with another; and the library keeps no pointer after a call.
 
-/// Writes the image of a fresh receiver of draft 02. Refusals: none.
+/// Writes the image of a fresh receiver of draft 02 with a window of 8. Refusals: none.
 #[inline]
 pub fn receiver_start(state: &mut [u8; RECEIVER_IMAGE]) -> u32 {
     unsafe { exported::btpu_receiver_start(state.as_mut_ptr()) }
 }
 
-/// Writes the image of a fresh receiver of draft 00. Refusals: none.
+/// Writes the image of a fresh receiver of draft 02 with a window of 4, 8 or 16. Refusal: 21.
 #[inline]
-pub fn receiver_start_00(state: &mut [u8; RECEIVER_IMAGE]) -> u32 {
-    unsafe { exported::btpu_receiver_start_00(state.as_mut_ptr()) }
+pub fn receiver_start_window(state: &mut [u8; RECEIVER_IMAGE], window: u32) -> u32 {
+    unsafe { exported::btpu_receiver_start_window(state.as_mut_ptr(), window) }
+}
+
+/// Writes the image of a fresh receiver of draft 00 with a window of 4, 8 or 16. Refusal: 21.
+#[inline]
+pub fn receiver_start_00(state: &mut [u8; RECEIVER_IMAGE], window: u32) -> u32 {
+    unsafe { exported::btpu_receiver_start_00(state.as_mut_ptr(), window) }
 }
 
 /// Whether an image is a sound state. Refusal: 1.
@@ -159,7 +179,8 @@ pub fn receiver_check(state: &[u8; RECEIVER_IMAGE]) -> u32 {
     unsafe { exported::btpu_receiver_check(state.as_ptr()) }
 }
 
-/// Treats the messages of a frame from `place` on, up to the first bundle handed out. Refusals: 1 to 9.
+/// Treats the messages of a frame from `place` on, up to the first bundle handed out. The pool has exactly
+/// [`pool`]`(window)` octets, by the window of the image. Refusals: 1 to 9.
 #[inline]
 pub fn receive(
     state: &mut [u8; RECEIVER_IMAGE],
@@ -184,8 +205,8 @@ pub fn receive(
     }
 }
 
-/// Takes up to 64 frames, given by their lengths and joined octets, from a frame and a place in it on.
-/// Refusals: 1, 2, 3, 19, 9.
+/// Takes up to 64 frames, given by their lengths and joined octets, from a frame and a place in it on. The
+/// pool is that of [`receive`]. Refusals: 1, 2, 3, 19, 9.
 #[inline]
 pub fn receive_burst(
     state: &mut [u8; RECEIVER_IMAGE],
@@ -316,9 +337,9 @@ pub fn recording_open(
     }
 }
 
-/// Plays a recording on a fresh receiver of draft 02, until `limit` messages are treated or all are. Bundles go to an
-/// output and a list of their lengths, refused frames to their places and reasons. Refusals: 16 to 20, 2,
-/// 24.
+/// Plays a recording on a fresh receiver of draft 02 with a window of 16, until `limit` messages are treated
+/// or all are. Bundles go to an output and a list of their lengths, refused frames to their places and
+/// reasons. The pool has exactly [`pool`]`(`[`PLAY_WINDOW`]`)` octets. Refusals: 16 to 20, 2, 24.
 #[inline]
 pub fn play(
     recording: &[u8],

@@ -3,9 +3,9 @@
 use std::fmt;
 use std::iter::FusedIterator;
 
-use crate::raw::{self, MIN_OUTPUT, POOL, RECEIVER_DRAFT, RECEIVER_IMAGE};
+use crate::raw::{self, MIN_OUTPUT, RECEIVER_DRAFT, RECEIVER_IMAGE};
 use crate::window::Window;
-use crate::{Draft, Refusal, RestoreError};
+use crate::{Draft, Refusal, RestoreError, WindowSize};
 
 mod burst;
 
@@ -34,8 +34,9 @@ impl Bundle {
 ///
 /// Frames may come in any order, more than once, and with losses. A bundle in pieces is handed out when its
 /// last missing piece has come, and only once while its number is within the window: the greatest transfer
-/// number seen and the 15 before it. Pieces of older transfers are passed over. A bundle that came whole in
-/// one message has no number and is handed out each time its frame comes.
+/// number seen and those before it, 8 in all, or as many as the [`WindowSize`] given says. Pieces of older
+/// transfers are passed over. A bundle that came whole in one message has no number and is handed out each
+/// time its frame comes.
 ///
 /// ```
 /// use btpu::Receiver;
@@ -54,16 +55,16 @@ impl Bundle {
 #[derive(Clone)]
 pub struct Receiver {
     image: Box<[u8; RECEIVER_IMAGE]>,
-    pool: Box<[u8; POOL]>,
+    pool: Box<[u8]>,
 }
 
 impl Receiver {
-    /// A fresh receiver of draft 02.
+    /// A fresh receiver of draft 02 with a window of 8.
     pub fn new() -> Receiver {
         Receiver::of_draft(Draft::Draft02)
     }
 
-    /// A fresh receiver of a draft.
+    /// A fresh receiver of a draft, with a window of 8.
     ///
     /// ```
     /// use btpu::{Draft, Receiver};
@@ -77,22 +78,49 @@ impl Receiver {
     /// # Ok::<(), btpu::Refusal>(())
     /// ```
     pub fn of_draft(draft: Draft) -> Receiver {
+        Receiver::with_window(draft, WindowSize::default())
+    }
+
+    /// A fresh receiver of a draft and with a window.
+    ///
+    /// ```
+    /// use btpu::{Draft, Receiver, WindowSize};
+    ///
+    /// let mut small = Receiver::with_window(Draft::Draft02, WindowSize::Four);
+    /// let mut greater = Receiver::new();
+    /// // The end of transfer 5, then transfer 9 and only then the rest of 5.
+    /// let frames = [
+    ///     [4, 0, 0, 9, 0, 0, 0, 5, 0, 0, 0, 1, b'b'],
+    ///     [4, 0, 0, 9, 0, 0, 0, 9, 0, 0, 0, 0, b'c'],
+    ///     [3, 0, 0, 9, 0, 0, 0, 5, 0, 0, 0, 0, b'a'],
+    /// ];
+    /// assert_eq!(small.receive_burst(frames).bundles.len(), 1, "5 is four behind");
+    /// assert_eq!(greater.receive_burst(frames).bundles.len(), 2);
+    /// assert_eq!(small.pool().len(), 16_384);
+    /// assert_eq!(greater.pool().len(), 32_768);
+    /// ```
+    pub fn with_window(draft: Draft, size: WindowSize) -> Receiver {
         let mut receiver = Receiver {
-            image: boxed(&[0; RECEIVER_IMAGE]),
-            pool: boxed(&[0; POOL]),
+            image: Box::new([0; RECEIVER_IMAGE]),
+            pool: vec![0; size.pool()].into(),
         };
         let start = match draft {
             Draft::Draft00 => raw::receiver_start_00,
-            Draft::Draft02 => raw::receiver_start,
+            Draft::Draft02 => raw::receiver_start_window,
         };
-        let returned = start(&mut receiver.image);
-        assert_eq!(returned, 0, "a receiver's start refuses nothing");
+        let returned = start(&mut receiver.image, size.transfers() as u32);
+        assert_eq!(returned, 0, "a receiver's start refuses no such window");
         receiver
     }
 
     /// The draft that the receiver is set to.
     pub fn draft(&self) -> Draft {
         Draft::of(self.image[RECEIVER_DRAFT])
+    }
+
+    /// How many transfers the receiver keeps.
+    pub fn window_size(&self) -> WindowSize {
+        WindowSize::of(&self.image)
     }
 
     /// Takes a frame to its end; the answer is all bundles that it completes, in their order.
@@ -148,7 +176,7 @@ impl Receiver {
     fn step(&mut self, frame: &[u8], place: u64) -> Result<Option<(Bundle, u64)>, Refusal> {
         let mut output = [0; MIN_OUTPUT];
         let mut result = [0; 4];
-        let (image, pool) = (&mut self.image, &mut self.pool[..]);
+        let (image, pool) = (&mut self.image, &mut self.pool);
         let returned = raw::receive(image, pool, frame, place, &mut output, &mut result);
         Refusal::from_returned(returned)?;
         let [answer, length, next, number] = result;
@@ -162,7 +190,7 @@ impl Receiver {
     }
 
     /// The pool with the pieces held: those of row r in order of arrival from octet 4,096 times r on.
-    pub fn pool(&self) -> &[u8; POOL] {
+    pub fn pool(&self) -> &[u8] {
         &self.pool
     }
 
@@ -199,6 +227,10 @@ impl Receiver {
     /// stands there, or damaged in the pool, are not noticed: where the storage is not trusted, keep a
     /// checksum with the save.
     ///
+    /// Draft and window are those of the save. One that was made before windows could be chosen has zero in
+    /// the window's octet, [`RECEIVER_WINDOW`](raw::RECEIVER_WINDOW), and is refused; its window was 16, and
+    /// with 16 in that octet it is restored.
+    ///
     /// ```
     /// use btpu::{Receiver, Refusal, RestoreError};
     ///
@@ -218,30 +250,26 @@ impl Receiver {
     ///
     /// # Errors
     ///
-    /// Another length than [`save`](Receiver::save) gives, or refusal 1.
+    /// Another length than image and pool have together, or refusal 1.
     pub fn restore(saved: &[u8]) -> Result<Receiver, RestoreError> {
-        let length = RestoreError::Length {
+        let length = |size: WindowSize| RestoreError::Length {
             found: saved.len(),
-            expected: RECEIVER_IMAGE + POOL,
+            expected: RECEIVER_IMAGE + size.pool(),
         };
-        let (image, pool) = saved.split_at_checked(RECEIVER_IMAGE).ok_or(length)?;
-        if pool.len() != POOL {
-            return Err(length);
-        }
-        let image = boxed(image);
-        let checked = Refusal::from_returned(raw::receiver_check(&image));
+        let Some((image, pool)) = saved.split_first_chunk::<RECEIVER_IMAGE>() else {
+            return Err(length(WindowSize::Four));
+        };
+        let checked = Refusal::from_returned(raw::receiver_check(image));
         checked.map_err(RestoreError::Refused)?;
+        let size = WindowSize::of(image);
+        if pool.len() != size.pool() {
+            return Err(length(size));
+        }
         Ok(Receiver {
-            image,
-            pool: boxed(pool),
+            image: Box::new(*image),
+            pool: pool.into(),
         })
     }
-}
-
-/// A copy of exactly so many octets.
-fn boxed<const LENGTH: usize>(octets: &[u8]) -> Box<[u8; LENGTH]> {
-    let copy: Box<[u8]> = octets.into();
-    copy.try_into().expect("the lengths are the same")
 }
 
 impl Default for Receiver {
@@ -254,6 +282,7 @@ impl fmt::Debug for Receiver {
     fn fmt(&self, f: &mut fmt::Formatter) -> fmt::Result {
         f.debug_struct("Receiver")
             .field("draft", &self.draft())
+            .field("window_size", &self.window_size())
             .field("window", &self.window())
             .finish_non_exhaustive()
     }

@@ -1,12 +1,13 @@
 //! Recordings: written, opened and played.
 
-use crate::raw::{self, PLAYED_BUNDLES, POOL, RECORDED_FRAMES, RECORDED_OCTETS};
-use crate::Refusal;
+use crate::raw::{self, PLAYED_BUNDLES, RECORDED_FRAMES, RECORDED_OCTETS};
+use crate::{Refusal, WindowSize};
 
 /// A recording that was opened: frames in order, at most 1,024 with at most 61,440 octets.
 ///
 /// A recording has no draft: frames of either draft may be written and read back. A playback reads them as
-/// draft 02.
+/// draft 02, with a window of 16; a [`Receiver`](crate::Receiver) of another window may hand out fewer bundles
+/// of the same frames.
 ///
 /// ```
 /// use btpu::Recording;
@@ -31,6 +32,9 @@ pub struct Recording<'a> {
 }
 
 impl<'a> Recording<'a> {
+    /// The window of the receiver on which a recording is played.
+    pub const WINDOW: WindowSize = WindowSize::Sixteen;
+
     /// A recording of these frames, in this order.
     ///
     /// # Errors
@@ -74,7 +78,8 @@ impl<'a> Recording<'a> {
         parts(self.octets, &self.sizes)
     }
 
-    /// Plays the recording on a fresh receiver of draft 02 until `limit` messages are treated, or to its end.
+    /// Plays the recording on a fresh receiver of draft 02, with a window of 16, until `limit` messages are
+    /// treated, or to its end.
     ///
     /// A run of padding counts as one message; a refused frame has none.
     pub fn play(&self, limit: u64) -> Playback {
@@ -86,7 +91,7 @@ impl<'a> Recording<'a> {
         let returned = raw::play(
             self.recording,
             limit,
-            &mut vec![0; POOL],
+            &mut vec![0; Recording::WINDOW.pool()],
             (&mut octets, &mut lengths),
             (&mut places, &mut reasons),
             &mut result,

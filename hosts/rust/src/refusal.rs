@@ -72,6 +72,8 @@ pub enum Refusal {
     OctetCount,
     /// 20: octets stand behind a recording.
     LeftOver,
+    /// 21: a window that is not 4, 8 or 16.
+    Window,
     /// 24: an output or a list that is lent is too short.
     ShortOutput,
 }
@@ -99,6 +101,7 @@ impl Refusal {
             Refusal::RecordedLength => 18,
             Refusal::OctetCount => 19,
             Refusal::LeftOver => 20,
+            Refusal::Window => 21,
             Refusal::ShortOutput => 24,
         }
     }
@@ -119,7 +122,7 @@ impl Refusal {
     pub fn words(self) -> &'static str {
         match self {
             Refusal::State => "not a sound state",
-            Refusal::Lent => "pool not 65,536 octets, or output below 4,096",
+            Refusal::Lent => "pool not 4,096 octets times the window, or output below 4,096",
             Refusal::FrameLength => "frame of 0 or more than 2,048 octets",
             Refusal::Header { .. } => "fewer than 4 octets left for a header",
             Refusal::Flag { .. } => "reserved flag bits",
@@ -139,6 +142,7 @@ impl Refusal {
             Refusal::RecordedLength => "a frame's length outside 1 to 2,048",
             Refusal::OctetCount => "the octets are not the sum of the lengths",
             Refusal::LeftOver => "octets behind the recording",
+            Refusal::Window => "window not 4, 8 or 16",
             Refusal::ShortOutput => "output too short",
         }
     }
@@ -188,6 +192,7 @@ impl Refusal {
             18 => Refusal::RecordedLength,
             19 => Refusal::OctetCount,
             20 => Refusal::LeftOver,
+            21 => Refusal::Window,
             24 => Refusal::ShortOutput,
             _ => return None,
         })
@@ -213,7 +218,7 @@ pub enum RestoreError {
     Length {
         /// Octets given.
         found: usize,
-        /// Octets of a save; of a sender whose image is cut short, the least it could have.
+        /// Octets of a save; where its image is cut short, the least it could have.
         expected: usize,
     },
     /// The image in them is not a sound state.

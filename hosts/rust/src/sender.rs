@@ -33,9 +33,10 @@ impl Sent {
 /// 4,294,967,295 comes 0.
 ///
 /// A number must not be used again while receivers have it in their window, which is the greatest number
-/// they have seen and the 15 before it: they would pass over the new bundle, or join pieces of both. After
+/// they have seen and up to 15 before it: they would pass over the new bundle, or join pieces of both. After
 /// a restart either [`restore`](Sender::restore) the sender, or start it with a number that comes after the
-/// last one used, by not more than 2,147,483,655: receivers pass over numbers further on.
+/// last one used, by not more than 2,147,483,649: receivers with the smallest window pass over numbers further
+/// on.
 ///
 /// ```
 /// use btpu::Sender;

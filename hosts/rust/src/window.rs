@@ -1,19 +1,21 @@
 //! A receiver's image, read for showing.
 
 use crate::raw::RECEIVER_IMAGE;
+use crate::WindowSize;
 
 const ROWS_START: usize = 8;
 const ROW: usize = 196;
 const INDEXES: usize = 4;
 const LENGTHS: usize = 68;
 
-/// The transfers that a receiver knows of: those with the greatest number so far and the 15 before it.
+/// The transfers that a receiver knows of: those with the greatest number so far and the numbers before it,
+/// as many as its [`WindowSize`] says.
 #[derive(Clone, Debug, PartialEq, Eq)]
 pub struct Window {
     /// The greatest transfer number so far.
     pub greatest: Option<u32>,
-    /// One row for each transfer number of the window; number n has row n modulo 16.
-    pub rows: [Row; 16],
+    /// One row for each transfer number of the window; number n has row n modulo the number of rows.
+    pub rows: Vec<Row>,
 }
 
 /// What a receiver knows of one transfer.
@@ -60,13 +62,13 @@ impl Window {
     pub(crate) fn of(image: &[u8; RECEIVER_IMAGE]) -> Window {
         let greatest = u32::from_be_bytes([image[4], image[5], image[6], image[7]]);
         let greatest = (image[0] == 1).then_some(greatest);
-        let row = |row: usize| {
-            let start = ROWS_START + ROW * row;
-            Row::of(number(greatest, row as u32), &image[start..start + ROW])
-        };
+        let rows = WindowSize::of(image).transfers();
+        let octets = image[ROWS_START..].chunks_exact(ROW).take(rows);
+        let number = |row| number(greatest, row as u32, rows as u32);
+        let row = |(row, octets)| Row::of(number(row), octets);
         Window {
             greatest,
-            rows: std::array::from_fn(row),
+            rows: octets.enumerate().map(row).collect(),
         }
     }
 }
@@ -103,6 +105,6 @@ impl Phase {
 }
 
 /// The number within the window that has this row.
-fn number(greatest: Option<u32>, row: u32) -> Option<u32> {
-    greatest.map(|greatest| greatest.wrapping_sub(greatest.wrapping_sub(row) % 16))
+fn number(greatest: Option<u32>, row: u32, rows: u32) -> Option<u32> {
+    greatest.map(|greatest| greatest.wrapping_sub(greatest.wrapping_sub(row) % rows))
 }

@@ -1,7 +1,7 @@
 //! Bursts: the same as one frame after the other.
 
 use btpu::raw::{BURST_BUNDLES, BURST_FRAMES, MAX_FRAME, NO_NUMBER};
-use btpu::{Bundle, Burst, Draft, Receiver, RefusedFrame};
+use btpu::{Bundle, Burst, Draft, Receiver, RefusedFrame, WindowSize};
 
 /// Pseudo-random numbers that are the same in each run.
 struct Random(u64);
@@ -119,7 +119,8 @@ fn the_same_as_one_after_the_other() {
     let (mut whole, mut in_pieces, mut frames_taken) = (0, 0, 0);
     for round in 0..300u32 {
         let draft = Draft::ALL[round as usize % 2];
-        let mut receiver = Receiver::of_draft(draft);
+        let size = WindowSize::ALL[round as usize % 3];
+        let mut receiver = Receiver::with_window(draft, size);
         let mut first_number = round.wrapping_sub(150);
         for _ in 0..4 {
             let most = random.pick(&[3, 10, 65, 140]);
@@ -186,7 +187,7 @@ fn more_than_one_call_hands_out() {
         let place = [&number.to_be_bytes()[..], &[0, 0, 0, index]].concat();
         message(kind, &[place, vec![index; length]].concat())
     };
-    let mut receiver = Receiver::new();
+    let mut receiver = Receiver::with_window(Draft::Draft02, WindowSize::Sixteen);
     for number in 0..16 {
         for index in 0..2 {
             let begun = receiver.receive(&piece(3, number, index, 2036)).unwrap();

@@ -104,7 +104,7 @@ fn misread(draft: Draft, order: [usize; 3], bundles: &[(Option<u32>, &[u8])], ph
         .map(|&(number, octets)| (number, octets.to_vec()))
         .collect();
     assert_eq!(found, expected);
-    assert_eq!(receiver.window().rows[9].phase, phase);
+    assert_eq!(receiver.window().rows[9 % 8].phase, phase);
 }
 
 /// Frames of the other draft are read as the receiver's own: a transfer is given up, or the piece with

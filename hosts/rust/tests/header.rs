@@ -40,7 +40,7 @@ fn every_refusal_has_its_number() {
         assert_eq!(shown.split(' ').next(), Some(&camel_case(name)[..]));
         numbers.push(number);
     }
-    assert_eq!(numbers.len(), 20);
+    assert_eq!(numbers.len(), 21);
     for number in 0..256 {
         let known = Refusal::from_number(number, 0).is_some();
         assert_eq!(known, numbers.contains(&number), "{number}");
@@ -103,13 +103,15 @@ fn sizes_and_octets_are_those_of_the_header() {
     let sizes = [
         ("RECEIVER_IMAGE", raw::RECEIVER_IMAGE),
         ("SENDER_IMAGE", raw::SENDER_IMAGE),
-        ("POOL", raw::POOL),
         ("MIN_OUTPUT", raw::MIN_OUTPUT),
         ("MAX_BUNDLE", raw::MAX_BUNDLE),
         ("MAX_FRAME", raw::MAX_FRAME),
         ("MIN_FRAME_SIZE", raw::MIN_FRAME_SIZE),
         ("MAX_FRAME_SIZE", raw::MAX_FRAME_SIZE),
         ("MAX_RECORDING", raw::MAX_RECORDING),
+        ("PLAIN_WINDOW", raw::PLAIN_WINDOW as usize),
+        ("MAX_WINDOW", raw::MAX_WINDOW as usize),
+        ("PLAY_WINDOW", raw::PLAY_WINDOW as usize),
         ("BURST_FRAMES", raw::BURST_FRAMES),
         ("BURST_BUNDLES", raw::BURST_BUNDLES),
         ("BURST_RESULT", raw::BURST_RESULT),
@@ -118,6 +120,7 @@ fn sizes_and_octets_are_those_of_the_header() {
         ("PLAYED_BUNDLES", raw::PLAYED_BUNDLES),
     ];
     let octets = [
+        ("RECEIVER_WINDOW", raw::RECEIVER_WINDOW),
         ("RECEIVER_DRAFT", raw::RECEIVER_DRAFT),
         ("SENDER_BEGUN", raw::SENDER_BEGUN),
         ("SENDER_DRAFT", raw::SENDER_DRAFT),
@@ -128,6 +131,16 @@ fn sizes_and_octets_are_those_of_the_header() {
         assert_eq!(defined, Some(&number.to_string()[..]), "{name}");
     }
     assert!(definitions.contains(&("NO_NUMBER", &format!("UINT64_C({})", raw::NO_NUMBER))));
+}
+
+#[test]
+fn a_pool_is_that_of_the_header() {
+    let pool = format!(
+        "#define BTPU_POOL(window) (UINT32_C({}) * (window))",
+        raw::POOL_PER_ROW
+    );
+    assert!(header().contains(&pool));
+    assert_eq!([4, 8, 16].map(raw::pool), [16_384, 32_768, 65_536]);
 }
 
 /// The types of the parameters of each function that stands behind these words, by its name.
@@ -171,6 +184,6 @@ fn functions_are_those_of_the_header() {
     let raw = fs::read_to_string(path).expect("src/raw.rs can be read");
     let text = header();
     let declared = parameters(&text, "\nuint32_t btpu_", from_c);
-    assert_eq!(declared.len(), 14);
+    assert_eq!(declared.len(), 15);
     assert_eq!(declared, parameters(&raw, "pub fn btpu_", from_rust));
 }

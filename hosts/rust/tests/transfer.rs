@@ -2,7 +2,7 @@
 
 use std::collections::HashMap;
 
-use btpu::{Bundle, Draft, Phase, Receiver, Sender};
+use btpu::{Bundle, Draft, Phase, Receiver, Sender, WindowSize};
 
 /// Pseudo-random numbers that are the same in each run.
 struct Random(u64);
@@ -63,16 +63,17 @@ fn in_order() {
     }
 }
 
-/// Up to 16 transfers in any order, each frame once or twice: each comes out once.
+/// As many transfers as the window has, in any order, each frame once or twice: each comes out once.
 #[test]
 fn shuffled_and_repeated() {
     let mut random = Random(2);
     for round in 0..200 {
         let draft = Draft::ALL[round as usize % 2];
+        let size = WindowSize::ALL[round as usize % 3];
         let frame_size = 128 + random.below(400);
         // No bundle has room in one message, so that each is a transfer.
         let mut bundles = Vec::new();
-        for _ in 0..16 {
+        for _ in 0..size.transfers() {
             let length = frame_size + random.below(3000);
             bundles.push(random.octets(length));
         }
@@ -83,8 +84,8 @@ fn shuffled_and_repeated() {
             frames.push(again);
         }
         random.shuffle(&mut frames);
-        let received = received(&mut Receiver::of_draft(draft), &frames);
-        assert_eq!(received.len(), 16);
+        let received = received(&mut Receiver::with_window(draft, size), &frames);
+        assert_eq!(received.len(), size.transfers());
         let received: HashMap<_, _> = received
             .into_iter()
             .map(|bundle| (bundle.number.unwrap(), bundle.octets))
@@ -107,7 +108,7 @@ fn with_losses() {
         let arrived = [&frames[..lost], &frames[lost + 1..]].concat();
         let mut receiver = Receiver::of_draft(draft);
         assert_eq!(received(&mut receiver, &arrived), []);
-        assert_eq!(receiver.window().rows[40 % 16].phase, Phase::Open);
+        assert_eq!(receiver.window().rows[40 % 8].phase, Phase::Open);
 
         // The frames are sent once more, and one of them is lost again.
         let again = (lost + 1 + random.below(frames.len() - 1)) % frames.len();
@@ -116,7 +117,7 @@ fn with_losses() {
         let received = received(&mut receiver, &arrived);
         assert_eq!(received.len(), 1);
         assert_eq!(received[0].octets, bundle);
-        assert_eq!(receiver.window().rows[40 % 16].phase, Phase::Done);
+        assert_eq!(receiver.window().rows[40 % 8].phase, Phase::Done);
     }
 }
 
@@ -135,6 +136,6 @@ fn cancelled() {
         let received = received(&mut receiver, &frames);
         assert_eq!(received.len(), 1);
         assert_eq!((received[0].number, received[0].octets[0]), (Some(10), 8));
-        assert_eq!(receiver.window().rows[9].phase, Phase::Cancelled);
+        assert_eq!(receiver.window().rows[9 % 8].phase, Phase::Cancelled);
     }
 }

@@ -1,6 +1,6 @@
 //! The window that is shown, against a known sequence of messages.
 
-use btpu::{Draft, Phase, Piece, Receiver, Row};
+use btpu::{Draft, Phase, Piece, Receiver, Row, Window, WindowSize};
 
 const SEGMENT: u8 = 3;
 const END: u8 = 4;
@@ -28,19 +28,33 @@ fn row(number: u32, phase: Phase) -> Row {
     }
 }
 
+/// The row that a number has.
+fn of(window: &Window, number: u32) -> &Row {
+    &window.rows[number as usize % window.rows.len()]
+}
+
 #[test]
 fn fresh() {
-    let window = Receiver::new().window();
-    assert_eq!(window.greatest, None);
-    for row in window.rows {
-        assert_eq!((row.number, row.phase), (None, Phase::Free));
-        assert_eq!((row.last, row.pieces), (None, vec![]));
+    for size in WindowSize::ALL {
+        let window = Receiver::with_window(Draft::Draft02, size).window();
+        assert_eq!(window.greatest, None);
+        assert_eq!(window.rows.len(), size.transfers());
+        for row in window.rows {
+            assert_eq!((row.number, row.phase), (None, Phase::Free));
+            assert_eq!((row.last, row.pieces), (None, vec![]));
+        }
     }
 }
 
 #[test]
 fn every_phase() {
-    let mut receiver = Receiver::new();
+    every_phase_of(WindowSize::Eight);
+    let window = every_phase_of(WindowSize::Sixteen);
+    assert_eq!(window.rows[8], row(u32::MAX - 7, Phase::Free));
+}
+
+fn every_phase_of(size: WindowSize) -> Window {
+    let mut receiver = Receiver::with_window(Draft::Draft02, size);
     let frames = [
         piece(SEGMENT, 5, 1, b"abc"),
         piece(SEGMENT, 5, 0, &[7; 300]),
@@ -69,8 +83,8 @@ fn every_phase() {
     assert_eq!(window.rows[7], row(7, Phase::GivenUp));
     assert_eq!(window.rows[4], row(4, Phase::Done));
     assert_eq!(window.rows[0], row(0, Phase::Free));
-    assert_eq!(window.rows[8], row(u32::MAX - 7, Phase::Free));
     assert_eq!(receiver.pool()[5 * 4096..][..4], *b"abc\x07");
+    window
 }
 
 /// Indexes fall to 0, and the start has the highest.
@@ -99,23 +113,28 @@ fn of_draft_00() {
     let held = |index, length| Piece { index, length };
     let mut open = row(5, Phase::Open);
     open.pieces = vec![held(1, 3), held(0, 300)];
-    assert_eq!(window.rows[5], open);
+    assert_eq!(*of(&window, 5), open);
     let mut open = row(6, Phase::Open);
     open.last = Some(2);
     open.pieces = vec![held(2, 0), held(0, 1)];
-    assert_eq!(window.rows[6], open);
-    assert_eq!(window.rows[7], row(7, Phase::GivenUp));
-    assert_eq!(window.rows[8], row(8, Phase::GivenUp));
-    assert_eq!(window.rows[9], row(9, Phase::Done));
+    assert_eq!(*of(&window, 6), open);
+    assert_eq!(*of(&window, 7), row(7, Phase::GivenUp));
+    assert_eq!(*of(&window, 8), row(8, Phase::GivenUp));
+    assert_eq!(*of(&window, 9), row(9, Phase::Done));
 }
 
 /// The window moves on over the greatest number, and rows that fall out of it are free again.
 #[test]
 fn moves_on() {
-    let mut receiver = Receiver::new();
-    let before_zero = u32::MAX - 5;
+    WindowSize::ALL.into_iter().for_each(moves_on_by);
+}
+
+fn moves_on_by(size: WindowSize) {
+    let transfers = size.transfers() as u32;
+    let mut receiver = Receiver::with_window(Draft::Draft02, size);
+    let oldest = 3u32.wrapping_sub(transfers - 1);
     for frame in [
-        piece(SEGMENT, before_zero, 0, b"a"),
+        piece(SEGMENT, oldest, 0, b"a"),
         piece(END, 3, 0, b"b"),
         piece(SEGMENT, 3, 0, b"passed over"),
     ] {
@@ -123,21 +142,21 @@ fn moves_on() {
     }
     let window = receiver.window();
     assert_eq!(window.greatest, Some(3));
-    assert_eq!(window.rows[10].number, Some(before_zero));
-    assert_eq!(window.rows[10].phase, Phase::Open);
-    assert_eq!(window.rows[3], row(3, Phase::Done));
+    assert_eq!(of(&window, oldest).number, Some(oldest));
+    assert_eq!(of(&window, oldest).phase, Phase::Open);
+    assert_eq!(*of(&window, 3), row(3, Phase::Done));
     for (place, row) in window.rows.iter().enumerate() {
         let number = row.number.unwrap();
-        assert_eq!(number as usize % 16, place);
-        assert!(3u32.wrapping_sub(number) < 16);
+        assert_eq!(number as usize % size.transfers(), place);
+        assert!(3u32.wrapping_sub(number) < transfers);
     }
 
-    receiver.receive(&piece(SEGMENT, 10, 0, b"c")).unwrap();
+    receiver.receive(&piece(SEGMENT, 4, 0, b"c")).unwrap();
     let window = receiver.window();
-    assert_eq!(window.rows[10].number, Some(10));
-    assert_eq!(window.rows[10].pieces.len(), 1);
-    receiver.receive(&cancel(26)).unwrap();
+    assert_eq!(of(&window, oldest).number, Some(4));
+    assert_eq!(of(&window, 4).pieces.len(), 1);
+    receiver.receive(&cancel(4 + transfers)).unwrap();
     let window = receiver.window();
-    assert_eq!(window.rows[10], row(26, Phase::Cancelled));
-    assert_eq!(window.rows[3], row(19, Phase::Free));
+    assert_eq!(*of(&window, 4), row(4 + transfers, Phase::Cancelled));
+    assert_eq!(*of(&window, 3), row(3 + transfers, Phase::Free));
 }

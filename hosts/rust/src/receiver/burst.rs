@@ -84,7 +84,7 @@ impl Receiver {
         let mut result = [0; BURST_RESULT];
         let returned = raw::receive_burst(
             &mut self.image,
-            &mut self.pool[..],
+            &mut self.pool,
             (&frames.sizes, &frames.octets),
             from,
             (output, &mut lengths, &mut numbers),
