@@ -1,8 +1,10 @@
 //! The command line of a subcommand: options with values, and operands.
 
 use crate::outcome::Failure;
-use btpu::Draft;
+use crate::words::either;
+use btpu::{Draft, WindowSize};
 use std::ffi::{OsStr, OsString};
+use std::fmt::Display;
 use std::ops::RangeInclusive;
 use std::path::Path;
 
@@ -105,15 +107,31 @@ impl Arguments {
         }
     }
 
-    /// The draft that --draft names.
     pub fn draft(&self) -> Result<Option<Draft>, Failure> {
-        let Some(value) = self.value("--draft") else {
+        self.one_of("--draft", Draft::ALL)
+    }
+
+    pub fn window(&self) -> Result<Option<WindowSize>, Failure> {
+        self.one_of("--window", WindowSize::ALL)
+    }
+
+    /// A value that is one of these, as it is shown.
+    fn one_of<T: Copy + Display, const N: usize>(
+        &self,
+        name: &str,
+        all: [T; N],
+    ) -> Result<Option<T>, Failure> {
+        let Some(value) = self.value(name) else {
             return Ok(None);
         };
-        let mut drafts = Draft::ALL.into_iter();
-        match drafts.find(|draft| value == &*draft.to_string()) {
-            Some(draft) => Ok(Some(draft)),
-            None => usage(format!("--draft takes 00 or 02, not {}", value.display())),
+        let shown = all.map(|one| one.to_string());
+        match shown.iter().position(|one| value == &**one) {
+            Some(place) => Ok(Some(all[place])),
+            None => usage(format!(
+                "{name} takes {}, not {}",
+                either(&shown),
+                value.display()
+            )),
         }
     }
 

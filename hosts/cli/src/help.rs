@@ -2,10 +2,10 @@
 
 pub const USAGE: &str = "\
 usage: btpu send --frame-size P --first N [--draft D] [--state FILE] FILE...
-       btpu receive [--draft D] [--state FILE] [--out DIR]
+       btpu receive [--draft D] [--window W] [--state FILE] [--out DIR]
        btpu record FILE
        btpu play FILE [--messages N]
-       btpu inspect [--draft D] [FILE]
+       btpu inspect [--draft D] [--window W] [FILE]
        btpu [COMMAND] --help | --version
 ";
 
@@ -29,6 +29,13 @@ goes by draft 02 alone. A frame does not say of which draft it is: frames of the
 other draft are read as if they were of the draft in use. They may be refused,
 their transfers may be given up, and a single piece may be handed out as a
 bundle.
+
+A receiver has a window of 8 transfers: the greatest transfer number that has
+come and those before it. receive and inspect have one of 4 or 16 with --window;
+play always has one of 16. What comes of a transfer that is further behind is
+passed over without a word, and pieces of it that were held are lost. So mix, or
+repeat together, the frames of no more transfers than the smallest window of a
+board on the link has. send finishes each transfer before it begins the next.
 
 Exit: 0 if all went well, also where the reader of standard output left; 1 if
 something could not be read or written or was damaged, or if there were bad
@@ -60,7 +67,7 @@ leave them behind.
 );
 
 pub const RECEIVE: (&str, &str) = (
-    "usage: btpu receive [--draft D] [--state FILE] [--out DIR]\n",
+    "usage: btpu receive [--draft D] [--window W] [--state FILE] [--out DIR]\n",
     "
 Reads frames from standard input, one a line in hex, and writes a line for each
 bundle as soon as its last piece has come:
@@ -73,13 +80,18 @@ the transfers given up that are in the window, if there are any.
 
   --draft D     draft of the frames, 00 or 02; 02 if it is left out. Frames of
                 the other draft are not told apart: see btpu --help
+  --window W    how many transfers are kept at a time, 4, 8 or 16; 8 if it is
+                left out. Older ones are passed over: see btpu --help
   --state FILE  keeps the receiver's state over restarts. It is stored when all
                 bundles before it are out: at once after a frame, but not sooner
                 than 20 ms after the last time, and at the end. After a crash a
                 bundle may come twice; only what came after the last store is
-                lost. A file that is damaged is refused and left as it is. The
-                draft is kept too: a run without --draft goes on in it, and
-                tells it if it is 00; a --draft that differs is refused.
+                lost. A file that is damaged is refused and left as it is.
+                Draft and window are kept too: a run without --draft or --window
+                goes on with them, and tells a draft that is not 02 and a window
+                that is not 8; a --draft or --window that differs is refused. A
+                file from before windows could be chosen has window 16, which is
+                told, and stored in it.
   --out DIR     writes each bundle to a file of its own in DIR, which is there
                 as a whole or not at all: COUNT-NUMBER.bundle. Its name stands
                 on standard output in the place of HEX. COUNT goes on over
@@ -112,21 +124,23 @@ leave them behind.
 pub const PLAY: (&str, &str) = (
     "usage: btpu play FILE [--messages N]\n",
     "
-Plays a recording on a fresh receiver of draft 02 and writes a line for each
-bundle, as btpu receive does:
+Plays a recording on a fresh receiver of draft 02 with a window of 16 and writes
+a line for each bundle, as btpu receive does:
 
   bundle NUMBER LENGTH HEX   NUMBER is - for a bundle that came in one message
 
 Standard error has the frames refused, in words, the transfers given up that are
 in the window at the end, if there are any, and the count of messages. FILE - is
-standard input. Frames of draft 00 are read as draft 02 too: see btpu --help.
+standard input. Frames of draft 00 are read as draft 02 too: see btpu --help. A
+board with a smaller window may hand out fewer bundles of the same frames: use
+btpu inspect --window to see which.
 
   --messages N  stops after N messages; a run of padding is one message
 ",
 );
 
 pub const INSPECT: (&str, &str) = (
-    "usage: btpu inspect [--draft D] [FILE]\n",
+    "usage: btpu inspect [--draft D] [--window W] [FILE]\n",
     "
 Shows the messages of each frame in words (type, transfer number, index, length,
 hints), the bundles that it completes, and the window of the receiver after it:
@@ -134,8 +148,10 @@ what is held and what is missing of each transfer. A refused frame is shown up
 to its bad message, with the refusal. FILE has frames in hex, one a line, or is
 a recording: its content decides. Without FILE, or with -, it is standard input.
 
-  --draft D  draft by which frames and window are shown, 00 or 02; 02 if it is
-             left out. A recording does not name its draft: its frames are shown
-             by D too.
+  --draft D   draft by which frames and window are shown, 00 or 02; 02 if it is
+              left out. A recording does not name its draft: its frames are
+              shown by D too.
+  --window W  how many transfers the receiver keeps at a time, 4, 8 or 16; 8 if
+              it is left out. btpu play keeps 16.
 ",
 );

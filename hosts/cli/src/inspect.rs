@@ -7,6 +7,7 @@ use crate::lines::{BadLine, TakeLine};
 use crate::messages::messages;
 use crate::outcome::{Ended, Failure, Notes, Verdict};
 use crate::output::Output;
+use crate::settings::Given;
 use crate::window_view;
 use crate::words::counted;
 use btpu::raw::MAX_RECORDING;
@@ -15,13 +16,13 @@ use std::path::Path;
 use std::time::Duration;
 
 pub fn run(arguments: &Arguments) -> Ended {
-    let draft = arguments.draft()?.unwrap_or_default();
+    let receiver = Given::of(arguments)?.fresh();
     let input = match arguments.operands(0..=1, "FILE")?.first() {
         Some(file) if file != "-" => Input::file(Path::new(file))?,
         _ => Input::standard()?,
     };
     let mut inspection = Inspection {
-        receiver: Receiver::of_draft(draft),
+        receiver,
         output: Output::standard()?,
         notes: Notes::new("inspect"),
         frames: 0,

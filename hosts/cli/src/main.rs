@@ -5,7 +5,6 @@
 mod arguments;
 mod bundle_files;
 mod checksum;
-mod draft;
 mod drive;
 mod help;
 mod hex;
@@ -22,6 +21,7 @@ mod receive;
 mod record;
 mod replace;
 mod send;
+mod settings;
 mod state;
 mod window_view;
 mod words;
@@ -50,7 +50,7 @@ const COMMANDS: [Command; 5] = [
     Command {
         name: "receive",
         help: help::RECEIVE,
-        options: &["--draft", "--state", "--out"],
+        options: &["--draft", "--window", "--state", "--out"],
         run: |arguments| {
             arguments.operands(0..=0, "nothing")?;
             receive::run(arguments)
@@ -71,7 +71,7 @@ const COMMANDS: [Command; 5] = [
     Command {
         name: "inspect",
         help: help::INSPECT,
-        options: &["--draft"],
+        options: &["--draft", "--window"],
         run: inspect::run,
     },
 ];

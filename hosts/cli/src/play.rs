@@ -6,7 +6,7 @@ use crate::output::{bundle_line, Output};
 use crate::progress::Progress;
 use crate::window_view;
 use btpu::raw::MAX_RECORDING;
-use btpu::{Bundle, Playback, Receiver, Recording, Refusal};
+use btpu::{Bundle, Draft, Playback, Receiver, Recording, Refusal};
 use std::ffi::OsStr;
 use std::fs::File;
 use std::io::{self, IsTerminal, Read};
@@ -67,7 +67,7 @@ struct Walk {
 impl Walk {
     fn of(recording: &Recording, progress: &mut Progress) -> Walk {
         let (mut numbers, mut refused) = (Vec::new(), Vec::new());
-        let mut receiver = Receiver::new();
+        let mut receiver = Receiver::with_window(Draft::Draft02, Recording::WINDOW);
         for (place, frame) in recording.frames().enumerate() {
             match receiver.receive(frame) {
                 Ok(bundles) => numbers.extend(bundles.iter().map(|bundle: &Bundle| bundle.number)),

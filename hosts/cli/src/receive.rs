@@ -2,16 +2,17 @@
 
 use crate::arguments::Arguments;
 use crate::bundle_files::BundleFiles;
-use crate::draft;
 use crate::drive::{drive, InputEnd, Taker};
 use crate::input::Input;
 use crate::lines::{BadLine, TakeLine};
 use crate::outcome::{Ended, Failure, Notes, Verdict};
 use crate::output::{bundle_front, bundle_line, Output};
 use crate::pace::Pace;
+use crate::settings::Given;
 use crate::state::{Kind, StateFile};
 use crate::window_view;
-use btpu::{Bundle, Receiver};
+use btpu::raw::{RECEIVER_IMAGE, RECEIVER_WINDOW};
+use btpu::{Bundle, Receiver, RestoreError, WindowSize};
 use std::fmt::Display;
 use std::time::Duration;
 
@@ -47,18 +48,18 @@ struct Reception {
 
 impl Reception {
     fn open(arguments: &Arguments) -> Result<Reception, Failure> {
-        let given = arguments.draft()?;
+        let given = Given::of(arguments)?;
         let mut notes = Notes::new("receive");
         let state = match arguments.path("--state") {
             Some(path) => Some(StateFile::open(path, Kind::Receiver)?),
             None => None,
         };
         let (filed, receiver) = match restored(state.as_ref())? {
-            Some((filed, receiver)) => {
-                draft::go_on(receiver.draft(), given, &mut notes)?;
-                (filed, receiver)
+            Some(stored) => {
+                given.go_on(&stored.receiver, stored.before_windows, &mut notes)?;
+                (stored.filed, stored.receiver)
             }
-            None => (0, Receiver::of_draft(given.unwrap_or_default())),
+            None => (0, given.fresh()),
         };
         let files = match arguments.path("--out") {
             Some(path) => Some(BundleFiles::open(path, filed)?),
@@ -133,16 +134,44 @@ impl Reception {
     }
 }
 
-/// The bundles written to files so far, and the receiver, as the state file has them; None if there was no file.
-fn restored(state: Option<&StateFile>) -> Result<Option<(u64, Receiver)>, Failure> {
+/// What a state file keeps.
+struct Stored {
+    /// Bundles written to files so far.
+    filed: u64,
+    receiver: Receiver,
+    /// Whether it was stored before windows could be chosen.
+    before_windows: bool,
+}
+
+/// What the state file has; None if there was no file.
+fn restored(state: Option<&StateFile>) -> Result<Option<Stored>, Failure> {
     let Some((state, content)) = state.and_then(|state| Some((state, state.stored()?))) else {
         return Ok(None);
     };
     let Some((filed, saved)) = content.split_first_chunk() else {
         return Err(state.refuse("its content is too short for a receiver"));
     };
-    let receiver = Receiver::restore(saved).map_err(|error| state.refuse(&error.to_string()))?;
-    Ok(Some((u64::from_be_bytes(*filed), receiver)))
+    let before_windows = is_before_windows(saved);
+    let receiver = match before_windows {
+        true => restored_with_sixteen(saved),
+        false => Receiver::restore(saved),
+    };
+    Ok(Some(Stored {
+        filed: u64::from_be_bytes(*filed),
+        receiver: receiver.map_err(|error| state.refuse(&error.to_string()))?,
+        before_windows,
+    }))
+}
+
+/// Whether a receiver was saved before windows could be chosen: it names none, and has the pool of 16.
+fn is_before_windows(saved: &[u8]) -> bool {
+    saved.len() == RECEIVER_IMAGE + WindowSize::Sixteen.pool() && saved[RECEIVER_WINDOW] == 0
+}
+
+fn restored_with_sixteen(saved: &[u8]) -> Result<Receiver, RestoreError> {
+    let mut saved = saved.to_vec();
+    saved[RECEIVER_WINDOW] = WindowSize::Sixteen.transfers() as u8;
+    Receiver::restore(&saved)
 }
 
 impl Reception {

@@ -1,10 +1,10 @@
 //! `btpu send`: files cut into frames.
 
 use crate::arguments::Arguments;
-use crate::draft;
 use crate::hex;
 use crate::outcome::{Ended, Failure, Notes, Verdict};
 use crate::output::Output;
+use crate::settings;
 use crate::state::{Kind, StateFile};
 use btpu::raw::{MAX_BUNDLE, MAX_FRAME_SIZE, MIN_FRAME_SIZE};
 use btpu::{Draft, Refusal, Sender};
@@ -90,7 +90,9 @@ impl Given {
             }
             _ => {}
         }
-        draft::go_on(sender.draft(), self.draft, notes)?;
+        settings::agree("draft", sender.draft(), self.draft)?;
+        settings::tell("draft", sender.draft(), self.draft, notes);
+        notes.flush();
         Ok(sender)
     }
 }

@@ -7,8 +7,9 @@
 //! last 4 octets     CRC-32 of all octets before
 //!
 //! Content of a sender: its image (24 octets), then its frame buffer. Content of a receiver: the number of
-//! bundles written to files so far (8 octets), its image (3,144 octets), its pool (65,536 octets). The draft
-//! stands in the image.
+//! bundles written to files so far (8 octets), its image (3,144 octets), its pool (4,096 octets for each
+//! transfer of its window). Draft and window stand in the image. A receiver that was stored before windows
+//! could be chosen has zero in place of the window, and a pool of 65,536 octets: its window is 16.
 
 use crate::checksum::crc32;
 use crate::outcome::Failure;

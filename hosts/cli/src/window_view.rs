@@ -9,7 +9,7 @@ pub fn lines(receiver: &Receiver) -> Vec<String> {
     let Some(greatest) = window.greatest else {
         return vec!["window: no transfer number has come yet".to_string()];
     };
-    let oldest = greatest.wrapping_sub(15);
+    let oldest = oldest(&window, greatest);
     let mut rows = oldest_first(&window);
     // Numbers before the first one that is known may never have been sent.
     let known = rows.iter().position(|(_, row)| row.phase != Phase::Free);
@@ -43,10 +43,14 @@ pub fn given_up(receiver: &Receiver) -> Option<String> {
     ))
 }
 
+fn oldest(window: &Window, greatest: u32) -> u32 {
+    greatest.wrapping_sub(window.rows.len() as u32 - 1)
+}
+
 fn oldest_first(window: &Window) -> Vec<(u32, &Row)> {
     let rows = window.rows.iter();
     let mut rows: Vec<(u32, &Row)> = rows.filter_map(|row| Some((row.number?, row))).collect();
-    let oldest = window.greatest.unwrap_or(0).wrapping_sub(15);
+    let oldest = oldest(window, window.greatest.unwrap_or(0));
     rows.sort_by_key(|(number, _)| number.wrapping_sub(oldest));
     rows
 }
@@ -112,6 +116,7 @@ fn ranges(numbers: &[u32]) -> String {
 #[cfg(test)]
 mod tests {
     use super::*;
+    use btpu::WindowSize;
 
     /// A piece, with the highest index of its transfer or another.
     fn piece(draft: Draft, highest: bool, transfer: u32, index: u32) -> Vec<u8> {
@@ -137,8 +142,8 @@ mod tests {
         );
     }
 
-    fn every_phase(draft: Draft) -> Receiver {
-        let mut receiver = Receiver::of_draft(draft);
+    fn every_phase(draft: Draft, size: WindowSize) -> Receiver {
+        let mut receiver = Receiver::with_window(draft, size);
         assert_eq!(
             lines(&receiver),
             ["window: no transfer number has come yet"]
@@ -156,7 +161,7 @@ mod tests {
 
     #[test]
     fn every_phase_in_words() {
-        let mut receiver = every_phase(Draft::Draft02);
+        let mut receiver = every_phase(Draft::Draft02, WindowSize::Sixteen);
         let expected = [
             "window: transfers 4294967287 to 6",
             "  4 open: held 1 (1 octet), missing 0 and from 2 on, last index not known",
@@ -170,12 +175,43 @@ mod tests {
         let told = given_up(&receiver).unwrap();
         assert!(told.starts_with("transfers given up in the window: 3; "));
         let expected = expected.map(|line| line.replace("last index", "start index"));
-        assert_eq!(lines(&every_phase(Draft::Draft00)), expected);
+        let other = every_phase(Draft::Draft00, WindowSize::Sixteen);
+        assert_eq!(lines(&other), expected);
         let end = piece(Draft::Draft02, true, 9, 0);
         receiver.receive(&end).unwrap();
         let view = lines(&receiver);
         assert_eq!(view[0], "window: transfers 4294967290 to 9");
         assert_eq!(view[4], "  done: 1, 9");
         assert_eq!(view[7], "  nothing came of: 7, 8");
+    }
+
+    /// What is shown and told goes by the window, also once it has moved on.
+    #[test]
+    fn smaller_windows_in_words() {
+        let mut eight = every_phase(Draft::Draft02, WindowSize::Eight);
+        let view = lines(&eight);
+        assert_eq!(view[0], "window: transfers 4294967295 to 6");
+        assert_eq!(view[4..], ["  done: 1", "  cancelled: 2", "  given up: 3"]);
+        let mut four = every_phase(Draft::Draft02, WindowSize::Four);
+        let view = lines(&four);
+        assert_eq!(view[0], "window: transfers 3 to 6");
+        assert_eq!(view[4..], ["  given up: 3"]);
+        assert!(given_up(&four).is_some());
+
+        let end = piece(Draft::Draft02, true, 9, 0);
+        eight.receive(&end).unwrap();
+        let view = lines(&eight);
+        assert_eq!(view[0], "window: transfers 2 to 9");
+        assert_eq!(view[4], "  done: 9");
+        assert!(given_up(&eight).is_some());
+        four.receive(&end).unwrap();
+        let expected = [
+            "window: transfers 6 to 9",
+            "  6 open: held 2, 4 (2 octets), missing 0, 1, 3, last index 4",
+            "  done: 9",
+            "  nothing came of: 7, 8",
+        ];
+        assert_eq!(lines(&four), expected);
+        assert_eq!(given_up(&four), None);
     }
 }

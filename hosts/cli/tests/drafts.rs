@@ -121,7 +121,7 @@ fn refused(command: &str, state: &Path, given: &str, kept: &str, more: &[&str]) 
 }
 
 fn going_on(command: &str) -> String {
-    format!("btpu {command}: going on in draft 00, the draft of the state file\n")
+    format!("btpu {command}: going on with draft 00, the draft of the state file\n")
 }
 
 #[test]
@@ -235,29 +235,29 @@ const LINES: &str = "\
 const SHOWN: &str = "\
 frame 1 (line 1): 13 octets
   octet 0: transfer segment, transfer 5, index 0, 1 octet of data; message length 9
-  window: transfers 4294967286 to 5
+  window: transfers 4294967294 to 5
     5 open: held 0 (1 octet), missing from 1 on, start index not known
 frame 2 (line 2): 9 octets
   refusal 6 at octet 0: a length runs past the frame; the whole frame has no effect
-  window: transfers 4294967286 to 5
+  window: transfers 4294967294 to 5
     5 open: held 0 (1 octet), missing from 1 on, start index not known
 frame 3 (line 3): 18 octets
   octet 0: transfer start, transfer 5, index 2, 1 octet of data; message length 9
   octet 13: definite padding, 1 octet; message length 1
-  window: transfers 4294967286 to 5
+  window: transfers 4294967294 to 5
     5 open: held 0, 2 (2 octets), missing 1, start index 2
 frame 4 (line 4): 16 octets
   octet 0: type 6, unknown and passed over, 1 octet; message length 1
   octet 5: transfer cancel, transfer 3; message length 4
   octet 13: indefinite padding, 3 octets
-  window: transfers 4294967286 to 5
+  window: transfers 4294967294 to 5
     5 open: held 0, 2 (2 octets), missing 1, start index 2
     cancelled: 3
     nothing came of: 4
 frame 5 (line 5): 14 octets
   octet 0: transfer segment, transfer 5, index 1, 2 octets of data; message length 10
   handed out: the bundle of transfer 5, 4 octets
-  window: transfers 4294967286 to 5
+  window: transfers 4294967294 to 5
     done: 5
     cancelled: 3
     nothing came of: 4

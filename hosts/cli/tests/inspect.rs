@@ -17,7 +17,7 @@ const LINES: &str = "\
 const SHOWN: &str = "\
 frame 1 (line 2): 13 octets
   octet 0: transfer segment, transfer 5, index 0, 1 octet of data; message length 9
-  window: transfers 4294967286 to 5
+  window: transfers 4294967294 to 5
     5 open: held 0 (1 octet), missing from 1 on, last index not known
 frame 2 (line 3): 17 octets
   octet 0: bundle, 2 octets; message length 5; hint of type 1, value ff
@@ -25,18 +25,18 @@ frame 2 (line 3): 17 octets
   octet 10: bundle, 3 octets; message length 3
   handed out: a bundle message, 2 octets
   handed out: a bundle message, 3 octets
-  window: transfers 4294967286 to 5
+  window: transfers 4294967294 to 5
     5 open: held 0 (1 octet), missing from 1 on, last index not known
 frame 3 (line 4): 17 octets
   octet 0: transfer segment, transfer 5, index 0, 1 octet of data; message length 9
   refusal 6 at octet 13: a length runs past the frame; the whole frame has no effect
-  window: transfers 4294967286 to 5
+  window: transfers 4294967294 to 5
     5 open: held 0 (1 octet), missing from 1 on, last index not known
 frame 4 (line 5): 21 octets
   octet 0: transfer end, transfer 5, index 1, 1 octet of data; message length 9
   octet 13: transfer cancel, transfer 3; message length 4
   handed out: the bundle of transfer 5, 2 octets
-  window: transfers 4294967286 to 5
+  window: transfers 4294967294 to 5
     done: 5
     cancelled: 3
     nothing came of: 4

@@ -93,7 +93,7 @@ fn a_state_file_is_whole_after_every_kill() {
         if state.exists() {
             assert_eq!(
                 fs::metadata(&state).unwrap().len(),
-                16 + 8 + 3144 + 65_536 + 4
+                16 + 8 + 3144 + 32_768 + 4
             );
         }
         let check = run(&words, b"");
@@ -194,29 +194,19 @@ fn bad_state_files_of_a_sender() {
     assert_eq!(again.err, "btpu send: next transfer number: 3\n");
 }
 
-/// CRC-32, bit by bit.
-fn crc32(octets: &[u8]) -> u32 {
-    !octets.iter().fold(!0, |rest, &octet| {
-        let step = |rest: u32, _| (rest >> 1) ^ (0xedb8_8320 & (rest & 1).wrapping_neg());
-        (0..8).fold(rest ^ u32::from(octet), step)
-    })
-}
-
 #[test]
 fn a_state_that_is_not_sound_is_refused_whatever_its_checksum() {
     let directory = directory("state_unsound");
     let octets = sound_state(&directory);
-    let front = octets.len() - 4;
-    assert_eq!(octets[front..], crc32(&octets[..front]).to_be_bytes());
+    assert_eq!(sealed(octets.clone()), octets);
     let state = directory.join("state");
     let words = ["receive", "--state", text(&state)];
-    // The draft, and the phase of the first row.
-    for (at, octet) in [(16 + 8 + 2, 2), (16 + 8 + 8, 9)] {
+    // The window, the draft, the phase of the first row, and that of the first one beyond the window.
+    let faults = [(1, 0), (1, 5), (2, 2), (8, 9), (8 + 8 * 196, 2)];
+    for (at, octet) in faults {
         let mut octets = octets.clone();
-        octets[at] = octet;
-        let sum = crc32(&octets[..front]).to_be_bytes();
-        octets[front..].copy_from_slice(&sum);
-        refused(&words, &state, &octets, "refusal 1: ");
+        octets[IMAGE + at] = octet;
+        refused(&words, &state, &sealed(octets), "refusal 1: ");
     }
 }
 

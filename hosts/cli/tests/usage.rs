@@ -53,7 +53,21 @@ fn help_says_of_drafts() {
     }
 }
 
-const USAGE_ERRORS: [(&[&str], &str); 33] = [
+/// What a window is, and what each command does with it.
+#[test]
+fn help_says_of_windows() {
+    let all = run(&["--help"], b"").out;
+    assert!(all.contains("a window of 8 transfers"));
+    for command in ["receive", "inspect"] {
+        let help = run(&[command, "--help"], b"").out;
+        assert!(help.contains("[--window W]") && help.contains("\n  --window W "));
+        assert!(help.contains("4, 8 or 16"));
+    }
+    let play = run(&["play", "--help"], b"").out;
+    assert!(play.contains("a window of 16"), "{play}");
+}
+
+const USAGE_ERRORS: [(&[&str], &str); 46] = [
     (&[], "a command is missing"),
     (&["sned"], "there is no command sned"),
     (&["--bad"], "there is no command --bad"),
@@ -142,6 +156,40 @@ const USAGE_ERRORS: [(&[&str], &str); 33] = [
         "there is no option --draft",
     ),
     (&["receive", "--drafts=00"], "there is no option --drafts"),
+    (
+        &["receive", "--window", "5"],
+        "--window takes 4, 8 or 16, not 5",
+    ),
+    (
+        &["inspect", "--window=5"],
+        "--window takes 4, 8 or 16, not 5",
+    ),
+    (&["receive", "--window", "08"], "4, 8 or 16, not 08"),
+    (&["receive", "--window", "0"], "4, 8 or 16, not 0"),
+    (&["receive", "--window", "32"], "4, 8 or 16, not 32"),
+    (&["receive", "--window", "-8"], "4, 8 or 16, not -8"),
+    (&["receive", "--window"], "--window needs a value"),
+    (&["inspect", "--window="], "--window needs a value"),
+    (
+        &["receive", "--window", "--draft", "00"],
+        "--window needs a value",
+    ),
+    (
+        &["receive", "--window=4", "--window=4"],
+        "--window is given twice",
+    ),
+    (
+        &["play", "--window", "16", "a"],
+        "there is no option --window",
+    ),
+    (
+        &["record", "--window", "8", "a"],
+        "there is no option --window",
+    ),
+    (
+        &["send", "--window", "8", "-"],
+        "there is no option --window",
+    ),
 ];
 
 #[test]

@@ -194,6 +194,25 @@ pub fn line_of(number: Option<u32>, bundle: &[u8]) -> String {
     format!("bundle {number} {} {}", bundle.len(), hex(bundle))
 }
 
+/// Where the image stands in the state file of a receiver.
+pub const IMAGE: usize = 16 + 8;
+
+/// A state file with the checksum that fits the octets before it.
+pub fn sealed(mut octets: Vec<u8>) -> Vec<u8> {
+    octets.truncate(octets.len() - 4);
+    let sum = crc32(&octets);
+    octets.extend(sum.to_be_bytes());
+    octets
+}
+
+/// CRC-32, bit by bit.
+fn crc32(octets: &[u8]) -> u32 {
+    !octets.iter().fold(!0, |rest, &octet| {
+        let step = |rest: u32, _| (rest >> 1) ^ (0xedb8_8320 & (rest & 1).wrapping_neg());
+        (0..8).fold(rest ^ u32::from(octet), step)
+    })
+}
+
 /// Octets that look like nothing in particular.
 pub fn noise(length: usize, seed: u64) -> Vec<u8> {
     let mut x = seed.wrapping_mul(0x9e37_79b9_7f4a_7c15) | 1;
