@@ -54,7 +54,7 @@ module _ (s : State) (g : Good s) (pool sizes octets : List ℕ) (k place : ℕ)
   exports = rw (image-of-is s (fits s g), state-back s (fits s g))
 
   -- a burst that is refused gives the board back
-  keeps : (q : Refusal) → r .answer ≡ Refused q → r .board ≡ b
+  pub keeps : (q : Refusal) → r .answer ≡ Refused q → r .board ≡ b
   keeps q a = go (refusal (draftOf s) (windowOf s) b sizes octets k place (l .output)) refl
     where
       go : (o : Option Refusal) → refusal (draftOf s) (windowOf s) b sizes octets k place (l .output) ≡ o → r .board ≡ b
@@ -73,7 +73,7 @@ module _ (s : State) (g : Good s) (pool sizes octets : List ℕ) (k place : ℕ)
   unfolding exported
   status-is = ap (λ (x : Exported). x .status) exports
 
-  shaped : Shaped (draftOf s) (windowOf s) b
+  pub shaped : Shaped (draftOf s) (windowOf s) b
   shaped = record { window = refl; rows = g .rows; indexes = λ r r<. g .shaped r r< .indexes64; lengths = λ r r<. g .shaped r r< .lengths64 }
 
   module _ (low : Octets octets) (short : Sixteen sizes) (long : Long l) where

@@ -49,12 +49,12 @@ use Rattle.demands.proofs.Senders as Sent
 
 -- ---- the receiver
 
-record OnReceiver (image : List ℕ) : Type 0 where
-  state : Row.State
-  on : image ≡ Receiver.imageOf state
-  good : Images.Good state
+pub record OnReceiver (image : List ℕ) : Type 0 where
+  pub state : Row.State
+  pub on : image ≡ Receiver.imageOf state
+  pub good : Images.Good state
 
-receiver-on : {image : List ℕ} → Boards.Reached image → OnReceiver image
+pub receiver-on : {image : List ℕ} → Boards.Reached image → OnReceiver image
 receiver-on (Boards.started v w old e) = let m = Images.made v w old e in record { state = fresh v w; on = m .1; good = fresh-good v w (m .0) }
 receiver-on (Boards.called {image} pool frame place output result low u) =
     let k = receiver-on u in

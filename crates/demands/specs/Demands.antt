@@ -12,7 +12,7 @@ use Rattle.receiver.specs.Receive.{receive}
 use Rattle.images.specs.Receiver as Receiver
 use Rattle.images.specs.Sender as Sender
 use Rattle.answers.specs.Receiver.{numberIn}
-use Rattle.board.specs.Receiver.{received, checked as receiverChecked}
+use Rattle.board.specs.Receiver.{received, started, checked as receiverChecked}
 use Rattle.burst.specs.Burst.{Lists}
 use Rattle.burst.specs.Equal.{Sixteen, Long, Equals}
 use Rattle.board.specs.Burst as Bursts
@@ -70,6 +70,19 @@ pub record NeverLockedOut : Type 0 where
       → burst image pool sizes octets frame place l result .status ≡ 1 → ⊥
   pub sender : (image : List ℕ) → Senders.Reached image → senderChecked image ≡ 0
   pub send : (image : List ℕ) → Senders.Reached image → (c : Call) (frame result : List ℕ) → callOf c image frame result .status ≡ 1 → ⊥
+
+-- ---- requests E5 and E6: "A board is set to one draft at start", and its window is "chosen at start and kept in the state"
+
+-- the octets BTPU_RECEIVER_WINDOW and BTPU_RECEIVER_DRAFT of an image
+abbrev pub settingsIn : List ℕ → ℕ × ℕ
+settingsIn image = (getD image 1 0, getD image 2 0)
+
+pub record SettingsKept : Type 0 where
+  pub start : (v : Version) (w : ℕ) (old image : List ℕ) → started v old w ≡ (0, image) → settingsIn image ≡ (w, Receiver.versionCode v)
+  pub receive : (image : List ℕ) → Boards.Reached image → (pool frame : List ℕ) (place : ℕ) (output result : List ℕ)
+      → settingsIn (received image pool frame place output result .image) ≡ settingsIn image
+  pub receiveBurst : (image : List ℕ) → Boards.Reached image → (pool sizes octets : List ℕ) (frame place : ℕ) (l : Lists) (result : List ℕ) → Sixteen sizes → Long l
+      → settingsIn (burst image pool sizes octets frame place l result .image) ≡ settingsIn image
 
 -- ---- request E3: a burst that returns 0 is single calls, from its start to where its result says that the next call goes on
 

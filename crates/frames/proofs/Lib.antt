@@ -6,6 +6,7 @@
 --     Singly    a run over a frame's messages is single calls
 --     Burst     the loop over frames is single calls
 --     Calls     how many bundles single calls hand out; calls that go on where others stopped
+--     Keeping   the settings stay
 pub mod Joined
 pub mod Passing
 pub mod Adding
@@ -13,3 +14,4 @@ pub mod Costs
 pub mod Singly
 pub mod Burst
 pub mod Calls
+pub mod Keeping

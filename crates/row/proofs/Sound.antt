@@ -1,10 +1,10 @@
 -- What a sound row has, that it has room for a piece with a new index, and that an empty row is sound.
-use mathlib.Core.Path.{_≡_, sym, _∙_}
+use mathlib.Core.Path.{_≡_, refl, sym, _∙_}
 use mathlib.Core.Bool.{Bool, true, false, cond, not, _&&_, false≢true}
-use mathlib.Core.List.{List}
-use Prim.Native.Nat.{ℕ, _+_, _≤_, _<_}
+use mathlib.Core.List.{List, [], _∷_}
+use Prim.Native.Nat.{ℕ, zero, suc, _+_, _≤_, _<_}
 use native.Mathlib.Omega.{arith}
-use lib.ListN.{length, take, drop}
+use lib.ListN.{length, take, drop, replicate}
 use lib.Seq.{length-take-le}
 use lib.Dec.{eqb, leb}
 use borrow.Author.Tests.{eqb-true, leb-true, not-true}
@@ -14,6 +14,8 @@ use Rattle.pieces.specs.Pieces.{bundleMax, has, hasAbove, hasAll, distinct, isZ
 use Rattle.pieces.proofs.Counting.{above-has, lack-cons, held-and-lacking, low-distinct}
 use Rattle.row.specs.declared.Row.{Row}
 use Rattle.row.specs.declared.Phase.{Phase}
+use Rattle.row.specs.declared.Phase.the-variants.{Free}
+use Rattle.row.proofs.Shaped.{Shaped}
 use Rattle.row.specs.Row.{indexesOf, lengthsOf, emptyRow, isOpen, soundLast, soundPieces, soundOpen, soundEmpty, soundRow}
 
 -- what holds of any sound row
@@ -111,3 +113,28 @@ room r i s l low new =
 pub empty-sound : (p : Phase) → isOpen p ≡ false → soundRow (emptyRow p) ≡ true
 unfolding soundRow soundEmpty zeroFrom isZeros
 empty-sound p e = rw e
+
+zeros : (n : ℕ) (xs : List ℕ) → length xs ≡ n → isZeros xs ≡ true → xs ≡ replicate n 0
+unfolding isZeros
+zeros zero [] l e = refl
+zeros zero (x ∷ xs) l e = absurd (omega arith)
+zeros (suc n) [] l e = absurd (omega arith)
+zeros (suc n) (x ∷ xs) l e =
+    let p = both (eqb x 0) (isZeros xs) e in
+    rw (eqb-true x 0 (p .0), zeros n xs (omega arith) (p .1))
+
+-- and a sound Free row with 64 entries is the empty one
+pub free-empty : (r : Row) → Shaped r → soundRow r ≡ true → r .phase ≡ Free → r ≡ emptyRow Free
+unfolding soundRow soundEmpty zeroFrom
+free-empty r z s e =
+    let t : soundEmpty r ≡ true = rw e at s in
+    let a = both (not (r .known) && eqb (r .last) 0 && eqb (r .held) 0) (zeroFrom 0 (r .indexes) (r .lengths)) t in
+    let b = both (not (r .known) && eqb (r .last) 0) (eqb (r .held) 0) (a .0) in
+    let f = both (not (r .known)) (eqb (r .last) 0) (b .0) in
+    let l = both (isZeros (r .indexes)) (isZeros (r .lengths)) (a .1) in
+    let known = not-true (r .known) (f .0) in
+    let last = eqb-true (r .last) 0 (f .1) in
+    let held = eqb-true (r .held) 0 (b .1) in
+    let indexes = zeros 64 (r .indexes) (z .indexes64) (l .0) in
+    let lengths = zeros 64 (r .lengths) (z .lengths64) (l .1) in
+    λ j. record { phase = e j; known = known j; last = last j; held = held j; indexes = indexes j; lengths = lengths j }

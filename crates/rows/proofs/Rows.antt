@@ -1,5 +1,5 @@
 -- The rows of a state: those that a new number frees, and their soundness.
-use mathlib.Core.Bool.{Bool, true, false, cond, _&&_, _||_, and-true, and-false, and-assoc}
+use mathlib.Core.Bool.{Bool, true, false, cond, _&&_, _||_, and-true, and-false, and-assoc, false≢true}
 use mathlib.Core.List.{List, [], _∷_, map}
 use mathlib.Core.Logic.{_⊎_, inl, inr}
 use mathlib.Core.Path.{_≡_, refl, sym, ap, _∙_}
@@ -16,9 +16,11 @@ use Rattle.window.specs.Window.{Window, isWindow, rowOf, ahead, enters}
 use Rattle.window.proofs.Sizes.{window-of}
 use Rattle.window.proofs.Entering.{Entered, ahead-row, row-ahead, row-below, all-enter, none-beyond}
 use Rattle.row.specs.Row.{emptyRow, soundRow}
-use Rattle.row.specs.declared.Phase.the-variants.{Free}
+use Rattle.row.specs.declared.Phase.{Phase}
+use Rattle.row.specs.declared.Phase.the-variants.{Free, Open, Done, Cancelled, Abandoned}
 use Rattle.row.specs.declared.Row.{Row}
-use Rattle.row.proofs.Sound.{empty-sound}
+use Rattle.row.proofs.Shaped.{Shaped}
+use Rattle.row.proofs.Sound.{empty-sound, free-empty}
 use Rattle.rows.specs.Message.{freedFrom}
 use Rattle.rows.specs.State.{windowOf, isFree, soundIn, soundFrom, sound}
 use Rattle.rows.specs.declared.State.{State}
@@ -111,6 +113,22 @@ module _ (s : State) where
 
   pub sound-window : sound s ≡ true → Window (windowOf s)
   sound-window h = window-of (windowOf s) (sound-parts h .0)
+
+  -- a row beyond the window carries no meaning: it is Free, its entries zero
+  pub beyond-free : sound s ≡ true → (r : ℕ) → windowOf s ≤ r → r < length (s .rows) → Shaped (getD (s .rows) r (emptyRow Free)) → getD (s .rows) r (emptyRow Free) ≡ emptyRow Free
+  beyond-free h r w≤ r< z =
+      let x : Row = getD (s .rows) r (emptyRow Free) in
+      let one = sound-get (windowOf s) (s .present) 0 (s .rows) r (emptyRow Free) r< (sound-parts h .2) in
+      let none : (s .present && ltb (0 + r) (windowOf s)) ≡ false = rw (le-ltb (0 + r) (windowOf s) (omega arith)) (and-false (s .present)) in
+      let p = both (soundRow x) (isFree (x .phase)) (rw none at one) in
+      free-empty x z (p .0) (free-phase (x .phase) (p .1))
+    where
+      free-phase : (f : Phase) → isFree f ≡ true → f ≡ Free
+      free-phase Free e = refl
+      free-phase Open e = absurd (false≢true e)
+      free-phase Done e = absurd (false≢true e)
+      free-phase Cancelled e = absurd (false≢true e)
+      free-phase Abandoned e = absurd (false≢true e)
 
 -- ---- the rows that become free
 
