@@ -6,6 +6,7 @@
 --     Kept            what the calls on recordings keep
 --     Reserved        reserved flag bits are ignored
 --     Refused         a refused call changes nothing that it was lent
+--     NoWindow        an image without a window is refused with 1
 pub mod ReceiverCalls
 pub mod BurstCalls
 pub mod SenderCalls
@@ -13,3 +14,4 @@ pub mod RecordingCalls
 pub mod Kept
 pub mod Reserved
 pub mod Refused
+pub mod NoWindow

@@ -1,9 +1,12 @@
 -- Demand 1 for the exported calls, in the order of include/btpu.h: whatever a call returns other than 0, it leaves all that it was lent as
 -- it was. The two checks are lent nothing to write.
 use mathlib.Core.Path.{_≡_}
+use mathlib.Core.Bool.{false}
 use mathlib.Core.List.{List}
 use Prim.Native.Nat.{ℕ}
+use lib.ListN.{getD}
 use Rattle.wire.specs.declared.Version.{Version}
+use Rattle.window.specs.Window.{isWindow}
 use Rattle.playback.specs.Call.{Results}
 use Rattle.board.specs.Receiver as Receiver
 use Rattle.board.specs.Receiver.{received}
@@ -56,3 +59,15 @@ pub record RefusedUnchanged : Type 0 where
   pub play : (recording : List ℕ) (limit : ℕ) (pool : List ℕ) (r : Results) (result : List ℕ)
       → let e : Played = played recording limit pool r result in
       (e .status ≡ 0 → ⊥) → e ≡ record { status = e .status; pool = pool; results = r; result = result }
+
+-- "kept in the state, else refusal 21, in a state 1" (document 02, E6): an image whose octet BTPU_RECEIVER_WINDOW is not 4, 8 or 16 is refused with 1, and
+-- all that was lent stays. Images that were stored before windows could be chosen have 0 there.
+pub record NoWindowRefused : Type 0 where
+  -- btpu_receiver_check
+  pub check : (image : List ℕ) → isWindow (getD image 1 0) ≡ false → Receiver.checked image ≡ 1
+  -- btpu_receive
+  pub receive : (image pool frame : List ℕ) (place : ℕ) (output result : List ℕ) → isWindow (getD image 1 0) ≡ false
+      → received image pool frame place output result ≡ record { status = 1; image = image; pool = pool; output = output; result = result }
+  -- btpu_receive_burst
+  pub receiveBurst : (image pool sizes octets : List ℕ) (frame place : ℕ) (l : Lists) (result : List ℕ) → isWindow (getD image 1 0) ≡ false
+      → burst image pool sizes octets frame place l result ≡ record { status = 1; image = image; pool = pool; lists = l; result = result }
