@@ -1,13 +1,13 @@
 //! Two more receivers in plain Rust that the exported call is measured against: `inplace` works on the
-//! exported image and makes every check of document 01, `natural` keeps a state of its own. They share
-//! with the model only the types of messages and answers.
+//! exported image and makes every check of document 01, `natural` keeps a state of its own. Both go by the
+//! window of the state. They share with the model only the types of messages, windows and answers.
 
 pub mod inplace;
 pub mod natural;
 
 use crate::model::receiver::CELL;
 use crate::model::wire::{Fault, Message, Piece, MAX_FRAME};
-use crate::model::Refusal;
+use crate::model::{Refusal, Window};
 
 const BUNDLE: u32 = 2;
 const SEGMENT: u32 = 3;
@@ -117,10 +117,15 @@ enum Entry {
     New(u32),
 }
 
-fn entry(greatest: u32, number: u32) -> Entry {
+#[inline(always)]
+fn entry(window: Window, greatest: u32, number: u32) -> Entry {
+    let size = window.number();
+    let behind = greatest.wrapping_sub(number);
+    if behind < size {
+        return Entry::Inside;
+    }
     match number.wrapping_sub(greatest) {
-        0 | 4_294_967_281.. => Entry::Inside,
-        ahead @ 1..=2_147_483_655 => Entry::New(ahead.min(16)),
+        ahead if ahead <= (1 << 31) - 1 + size / 2 => Entry::New(ahead.min(size)),
         _ => Entry::Outside,
     }
 }

@@ -1,7 +1,9 @@
 //! Receiver and sender of document 01, as the requests of document 02 leave it, for draft 02 and for draft
-//! 00, and recordings, in plain Rust, written from these papers and document 000 alone.
+//! 00 and for every window, and recordings, in plain Rust, written from these papers and document 000 alone.
 //!
 //! The exported interface is compared with this model, and its speed is measured against it.
+
+use std::fmt;
 
 pub mod burst;
 mod draft;
@@ -11,9 +13,36 @@ pub mod playback;
 pub mod receiver;
 pub mod recording;
 pub mod sender;
+mod window;
 pub mod wire;
 
 pub use draft::{Draft, Layout, Layout00, Layout02};
+pub use window::{Distance, Window, MAX_ROWS};
+
+/// What a receiver is set to at its start, and keeps in its state.
+#[derive(Clone, Copy, Debug, PartialEq, Eq)]
+pub struct Settings {
+    pub draft: Draft,
+    pub window: Window,
+}
+
+impl Settings {
+    pub const fn new(draft: Draft, window: Window) -> Settings {
+        Settings { draft, window }
+    }
+
+    /// Every draft with every window.
+    pub fn all() -> impl Iterator<Item = Settings> + Clone {
+        let windows = |draft| Window::ALL.map(|window| Settings { draft, window });
+        Draft::BOTH.into_iter().flat_map(windows)
+    }
+}
+
+impl fmt::Display for Settings {
+    fn fmt(&self, to: &mut fmt::Formatter) -> fmt::Result {
+        write!(to, "{}, {}", self.draft, self.window)
+    }
+}
 
 /// The cases of the papers' refusals; 5 is never given, and 7 never in draft 00.
 #[derive(Clone, Copy, Debug, PartialEq, Eq)]
@@ -34,6 +63,7 @@ pub enum Refusal {
     RecordedLength,
     OctetCount,
     LeftOver,
+    NoWindow,
     OutputTooShort,
 }
 
@@ -67,6 +97,7 @@ impl Refusal {
             Refusal::RecordedLength => 18,
             Refusal::OctetCount => 19,
             Refusal::LeftOver => 20,
+            Refusal::NoWindow => 21,
             Refusal::OutputTooShort => 24,
         }
     }

@@ -7,7 +7,10 @@ pub use btpu::raw::{BurstBundles, BurstNotes};
 
 pub trait Side {
     const NAME: &'static str;
-    fn receiver_start(draft: Draft, state: &mut [u8; RECEIVER_IMAGE]) -> u32;
+    /// The start that names nothing: draft 02, and the window that it now means.
+    fn receiver_plain_start(state: &mut [u8; RECEIVER_IMAGE]) -> u32;
+    /// The start of a draft and a window, which may be none.
+    fn receiver_start(draft: Draft, window: u32, state: &mut [u8; RECEIVER_IMAGE]) -> u32;
     fn receiver_check(state: &[u8; RECEIVER_IMAGE]) -> u32;
     fn receive(
         state: &mut [u8; RECEIVER_IMAGE],
@@ -63,10 +66,14 @@ pub struct Exported;
 impl Side for Model {
     const NAME: &'static str = "model";
 
-    fn receiver_start(draft: Draft, state: &mut [u8; RECEIVER_IMAGE]) -> u32 {
+    fn receiver_plain_start(state: &mut [u8; RECEIVER_IMAGE]) -> u32 {
+        interface::receiver_start(state)
+    }
+
+    fn receiver_start(draft: Draft, window: u32, state: &mut [u8; RECEIVER_IMAGE]) -> u32 {
         match draft {
-            Draft::D00 => interface::receiver_start_00(state),
-            Draft::D02 => interface::receiver_start(state),
+            Draft::D00 => interface::receiver_start_00(state, window),
+            Draft::D02 => interface::receiver_start_window(state, window),
         }
     }
 
@@ -157,10 +164,14 @@ impl Side for Model {
 impl Side for Exported {
     const NAME: &'static str = "exported";
 
-    fn receiver_start(draft: Draft, state: &mut [u8; RECEIVER_IMAGE]) -> u32 {
+    fn receiver_plain_start(state: &mut [u8; RECEIVER_IMAGE]) -> u32 {
+        raw::receiver_start(state)
+    }
+
+    fn receiver_start(draft: Draft, window: u32, state: &mut [u8; RECEIVER_IMAGE]) -> u32 {
         match draft {
-            Draft::D00 => raw::receiver_start_00(state),
-            Draft::D02 => raw::receiver_start(state),
+            Draft::D00 => raw::receiver_start_00(state, window),
+            Draft::D02 => raw::receiver_start_window(state, window),
         }
     }
 

@@ -6,12 +6,12 @@ use std::array::from_fn;
 use super::{check, entry, join, read, Entry};
 use crate::model::image::{RECEIVER, ROW};
 use crate::model::interface::NO_NUMBER;
-use crate::model::receiver::{CELL, MAX_PIECES, MIN_OUTPUT, ROWS};
+use crate::model::receiver::{CELL, MAX_PIECES, MIN_OUTPUT};
 use crate::model::wire::{Message, Piece};
-use crate::model::Refusal;
+use crate::model::{Refusal, Window, MAX_ROWS};
 
 type Row = [u8; ROW];
-type Pool = [[u8; CELL]; ROWS];
+type Pool = [[u8; CELL]];
 
 const FREE: u8 = 0;
 const OPEN: u8 = 1;
@@ -32,26 +32,37 @@ struct Held {
 
 /// An image that is a sound state.
 struct State<'a> {
+    window: Window,
     head: &'a mut [u8; HEAD],
-    rows: &'a mut [Row; ROWS],
-    held: [Held; ROWS],
+    rows: &'a mut [Row; MAX_ROWS],
+    held: [Held; MAX_ROWS],
 }
 
 impl<'a> State<'a> {
     fn of(image: &'a mut [u8; RECEIVER]) -> Option<State<'a>> {
         let (head, rows) = image.split_first_chunk_mut::<HEAD>()?;
-        let rows: &mut [Row; ROWS] = rows.as_chunks_mut().0.try_into().ok()?;
-        let mut held = [Held::default(); ROWS];
+        let rows: &mut [Row; MAX_ROWS] = rows.as_chunks_mut().0.try_into().ok()?;
+        let mut held = [Held::default(); MAX_ROWS];
+        let window = Window::of_number(head[1].into())?;
         match head {
-            [1, 0, 0, 0, ..] => {
-                for (held, row) in held.iter_mut().zip(rows.iter()) {
+            [1, _, 0, 0, ..] => {
+                let (kept, beyond) = rows.split_at(window.rows());
+                for (held, row) in held.iter_mut().zip(kept) {
                     *held = check_row(row)?;
                 }
+                if !zero(beyond.as_flattened()) {
+                    return None;
+                }
             }
-            [0, 0, 0, 0, 0, 0, 0, 0] if zero(rows.as_flattened()) => {}
+            [0, _, 0, 0, 0, 0, 0, 0] if zero(rows.as_flattened()) => {}
             _ => return None,
         }
-        Some(State { head, rows, held })
+        Some(State {
+            window,
+            head,
+            rows,
+            held,
+        })
     }
 
     /// Places the number in the window and answers its row, or nothing if it lies outside.
@@ -62,17 +73,17 @@ impl<'a> State<'a> {
             *known = 1;
             *greatest = number.to_be_bytes();
         }
-        match entry(u32::from_be_bytes(*greatest), number) {
+        match entry(self.window, u32::from_be_bytes(*greatest), number) {
             Entry::Outside => return None,
             Entry::Inside => {}
             Entry::New(entered) => {
                 *greatest = number.to_be_bytes();
                 for back in 0..entered {
-                    self.empty(number.wrapping_sub(back) as usize % ROWS, FREE);
+                    self.empty(self.window.row_of(number.wrapping_sub(back)), FREE);
                 }
             }
         }
-        Some(number as usize % ROWS)
+        Some(self.window.row_of(number))
     }
 
     fn empty(&mut self, row: usize, phase: u8) {
@@ -284,9 +295,9 @@ pub fn receive(
     let (cells, []) = pool.as_chunks_mut() else {
         return Refusal::PoolOrOutputSize.returned();
     };
-    let (Ok(pool), MIN_OUTPUT..) = (<&mut Pool>::try_from(cells), output.len()) else {
+    if cells.len() != state.window.rows() || output.len() < MIN_OUTPUT {
         return Refusal::PoolOrOutputSize.returned();
-    };
+    }
     if let Err(refusal) = check(frame, place) {
         return refusal.returned();
     }
@@ -295,7 +306,7 @@ pub fn receive(
         let Ok((message, next)) = read(frame, at) else {
             unreachable!("the whole frame was checked");
         };
-        if let Some((length, number)) = state.treat(message, pool, output) {
+        if let Some((length, number)) = state.treat(message, cells, output) {
             *result = [1, length as u64, next as u64, number];
             return 0;
         }

@@ -4,9 +4,9 @@
 use super::{check, entry, join, read, Entry, Span};
 use crate::model::burst::{Bundles, Notes, Taken, MAX_BUNDLES, MAX_FRAMES};
 use crate::model::interface::NO_NUMBER;
-use crate::model::receiver::{self, Answer, Phase, CELL, MAX_PIECES, ROWS};
+use crate::model::receiver::{self, Answer, Phase, CELL, MAX_PIECES};
 use crate::model::wire::{Message, Piece};
-use crate::model::Refusal;
+use crate::model::{Refusal, Window};
 
 #[derive(Clone, Copy)]
 struct Row {
@@ -20,26 +20,11 @@ struct Row {
 
 #[derive(Clone)]
 pub struct Receiver {
+    window: Window,
     greatest: Option<u32>,
-    rows: Box<[Row; ROWS]>,
-    pool: Box<[[u8; CELL]; ROWS]>,
-}
-
-impl Default for Receiver {
-    fn default() -> Receiver {
-        let row = Row {
-            phase: Phase::Free,
-            last: None,
-            present: 0,
-            octets: 0,
-            pieces: [(0, 0); MAX_PIECES],
-        };
-        Receiver {
-            greatest: None,
-            rows: Box::new([row; ROWS]),
-            pool: Box::new([[0; CELL]; ROWS]),
-        }
-    }
+    /// As many as the window says, of both.
+    rows: Box<[Row]>,
+    pool: Box<[[u8; CELL]]>,
 }
 
 impl Row {
@@ -129,18 +114,19 @@ impl Row {
 }
 
 impl Receiver {
-    /// A receiver with the model's state, which must be sound, and a pool of the pool's size.
+    /// A receiver with the model's state, which must be sound, and a pool of the window's size.
     pub fn restored(state: &receiver::State, pool: &[u8]) -> Receiver {
-        let mut receiver = Receiver {
+        let window = state.settings.window;
+        let rows = &state.rows[..window.rows()];
+        Receiver {
+            window,
             greatest: state.greatest,
-            rows: Box::new(state.rows.each_ref().map(Row::restored)),
-            ..Receiver::default()
-        };
-        receiver.pool.as_flattened_mut().copy_from_slice(pool);
-        receiver
+            rows: rows.iter().map(Row::restored).collect(),
+            pool: pool.as_chunks().0.into(),
+        }
     }
 
-    /// Goes back to the state of another receiver; the pool stays.
+    /// Goes back to the state of another receiver of the same window; the pool stays.
     pub fn become_like(&mut self, receiver: &Receiver) {
         self.greatest = receiver.greatest;
         for (row, other) in self.rows.iter_mut().zip(receiver.rows.iter()) {
@@ -151,17 +137,17 @@ impl Receiver {
     /// Places the number in the window and answers its row, or nothing if it lies outside.
     #[inline]
     fn enter(&mut self, number: u32) -> Option<usize> {
-        match entry(*self.greatest.get_or_insert(number), number) {
+        match entry(self.window, *self.greatest.get_or_insert(number), number) {
             Entry::Outside => return None,
             Entry::Inside => {}
             Entry::New(entered) => {
                 self.greatest = Some(number);
                 for back in 0..entered {
-                    self.rows[number.wrapping_sub(back) as usize % ROWS].empty(Phase::Free);
+                    self.rows[self.window.row_of(number.wrapping_sub(back))].empty(Phase::Free);
                 }
             }
         }
-        Some(number as usize % ROWS)
+        Some(self.window.row_of(number))
     }
 
     fn cancel(&mut self, number: u32) {

@@ -2,8 +2,8 @@
 
 use super::draft::{Draft, Layout, Layout00, Layout02};
 use super::interface::NO_NUMBER;
-use super::receiver::{self, State, MIN_OUTPUT, POOL};
-use super::{wire, Refusal};
+use super::receiver::{self, State, MIN_OUTPUT};
+use super::{wire, Refusal, Settings};
 
 pub const MAX_FRAMES: usize = 64;
 pub const MAX_BUNDLES: usize = 256;
@@ -41,7 +41,8 @@ pub fn receive_burst(
     if !state.is_sound() {
         return Err(Refusal::UnsoundState);
     }
-    if pool.len() != POOL || bundles.0.len() < MIN_OUTPUT {
+    let Settings { draft, window } = state.settings;
+    if pool.len() != window.pool() || bundles.0.len() < MIN_OUTPUT {
         return Err(Refusal::PoolOrOutputSize);
     }
     if sizes.len() > MAX_FRAMES {
@@ -51,7 +52,7 @@ pub fn receive_burst(
         return Err(Refusal::OctetCount);
     }
     let frames = cut(sizes, octets);
-    if !is_good_start(state.draft, &frames, first, place) {
+    if !is_good_start(draft, &frames, first, place) {
         return Err(Refusal::BadPlace);
     }
     let mut burst = Burst {
@@ -97,7 +98,7 @@ impl Burst<'_> {
     /// The answer is where the next call goes on.
     fn take_all(&mut self, frames: &[&[u8]], first: usize, mut place: usize) -> (usize, usize) {
         for (number, frame) in frames.iter().enumerate().skip(first) {
-            let draft = self.state.draft;
+            let draft = self.state.settings.draft;
             let stopped = match (receiver::check_frame(draft, frame, place as u64), draft) {
                 (Ok(()), Draft::D00) => self.take::<Layout00>(frame, place),
                 (Ok(()), Draft::D02) => self.take::<Layout02>(frame, place),

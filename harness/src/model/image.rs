@@ -1,10 +1,12 @@
 //! The octet images of the states.
 
 use super::draft::Draft;
-use super::receiver::{self, Phase, Row, MAX_PIECES, ROWS};
+use super::receiver::{self, Phase, Row, MAX_PIECES};
 use super::sender::{self, Transfer};
+use super::window::{Window, MAX_ROWS};
+use super::Settings;
 
-pub const RECEIVER: usize = 8 + ROWS * ROW;
+pub const RECEIVER: usize = 8 + MAX_ROWS * ROW;
 pub const ROW: usize = 4 + 3 * MAX_PIECES;
 pub const SENDER: usize = 24;
 
@@ -12,13 +14,17 @@ impl receiver::State {
     /// Nothing for an image that is no state or holds an entry without meaning that is not zero.
     pub fn decode(image: &[u8; RECEIVER]) -> Option<receiver::State> {
         let (head, rows) = image.split_first_chunk::<8>()?;
-        if head[1] != 0 || head[3] != 0 {
+        if head[3] != 0 {
             return None;
         }
+        let settings = Settings {
+            draft: Draft::of_octet(head[2])?,
+            window: Window::of_number(head[1].into())?,
+        };
         let greatest = u32::from_be_bytes([head[4], head[5], head[6], head[7]]);
         let mut state = receiver::State {
             greatest: optional(head[0], greatest)?,
-            ..receiver::State::start(Draft::of_octet(head[2])?)
+            ..receiver::State::start(settings)
         };
         for (row, octets) in state.rows.iter_mut().zip(rows.chunks_exact(ROW)) {
             decode_row(row, octets)?;
@@ -30,7 +36,8 @@ impl receiver::State {
         let (head, rows) = image.split_at_mut(8);
         head.fill(0);
         head[0] = self.greatest.is_some().into();
-        head[2] = self.draft.octet();
+        head[1] = self.settings.window.octet();
+        head[2] = self.settings.draft.octet();
         head[4..].copy_from_slice(&self.greatest.unwrap_or(0).to_be_bytes());
         for (row, octets) in self.rows.iter().zip(rows.chunks_exact_mut(ROW)) {
             encode_row(row, octets);

@@ -6,19 +6,33 @@ use super::playback::{self, Bundles, Notes};
 use super::receiver::{self, Observer};
 use super::recording::{self, Recording, MAX_FRAMES};
 use super::sender::{self, Answer};
-use super::{image, Refusal};
+use super::window::Window;
+use super::{image, Refusal, Settings};
 
 /// The transfer number of a bundle that came in a bundle message.
 pub const NO_NUMBER: u64 = 1 << 32;
 
 pub fn receiver_start(image: &mut [u8; image::RECEIVER]) -> u32 {
-    receiver::State::start(Draft::D02).encode(image);
+    receiver::State::start(Settings::new(Draft::D02, Window::PLAIN)).encode(image);
     0
 }
 
-pub fn receiver_start_00(image: &mut [u8; image::RECEIVER]) -> u32 {
-    receiver::State::start(Draft::D00).encode(image);
-    0
+pub fn receiver_start_window(image: &mut [u8; image::RECEIVER], window: u32) -> u32 {
+    start_receiver(Draft::D02, image, window)
+}
+
+pub fn receiver_start_00(image: &mut [u8; image::RECEIVER], window: u32) -> u32 {
+    start_receiver(Draft::D00, image, window)
+}
+
+fn start_receiver(draft: Draft, image: &mut [u8; image::RECEIVER], window: u32) -> u32 {
+    match Window::of_number(window) {
+        Some(window) => {
+            receiver::State::start(Settings { draft, window }).encode(image);
+            0
+        }
+        None => Refusal::NoWindow.returned(),
+    }
 }
 
 pub fn receiver_check(image: &[u8; image::RECEIVER]) -> u32 {

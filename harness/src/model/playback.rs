@@ -1,9 +1,10 @@
-//! Playback of a recording on a fresh receiver of draft 02.
+//! Playback of a recording on a fresh receiver of draft 02 and window 16.
 
 use super::draft::{Draft, Layout02};
-use super::receiver::{Observer, State, POOL};
+use super::receiver::{Observer, State};
 use super::recording::{Recording, MAX_FRAMES, MAX_OCTETS};
-use super::{wire, Refusal};
+use super::window::Window;
+use super::{wire, Refusal, Settings};
 
 /// As many bundles as a recording can hold: every one takes a header at least.
 pub const MIN_LENGTHS: usize = MAX_OCTETS / 4;
@@ -34,7 +35,7 @@ pub fn play(
     observer: &mut impl Observer,
 ) -> Result<Played, Refusal> {
     let recording = Recording::read(recording)?;
-    if pool.len() != POOL {
+    if pool.len() != Window::PLAYBACK.pool() {
         return Err(Refusal::PoolOrOutputSize);
     }
     if bundles.0.len() < MAX_OCTETS
@@ -45,7 +46,7 @@ pub fn play(
         return Err(Refusal::OutputTooShort);
     }
     let mut player = Player {
-        state: State::start(Draft::D02),
+        state: State::start(Settings::new(Draft::D02, Window::PLAYBACK)),
         pool,
         bundles,
         played: Played::default(),

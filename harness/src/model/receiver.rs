@@ -1,13 +1,12 @@
 //! The receiving side: window, rows and the receiving call.
 
 use super::draft::{Draft, Layout, Layout00, Layout02};
+use super::window::{Distance, Window, MAX_ROWS};
 use super::wire::{self, Message, Piece};
-use super::Refusal;
+use super::{Refusal, Settings};
 
-pub const ROWS: usize = 16;
 pub const MAX_PIECES: usize = 64;
 pub const CELL: usize = 4096;
-pub const POOL: usize = ROWS * CELL;
 pub const MIN_OUTPUT: usize = CELL;
 
 #[derive(Clone, Copy, Debug, PartialEq, Eq)]
@@ -32,9 +31,10 @@ pub struct Row {
 
 #[derive(Clone, Debug, PartialEq, Eq)]
 pub struct State {
-    pub draft: Draft,
+    pub settings: Settings,
     pub greatest: Option<u32>,
-    pub rows: [Row; ROWS],
+    /// As many as the window says; those beyond carry no meaning.
+    pub rows: [Row; MAX_ROWS],
 }
 
 #[derive(Clone, Copy, Debug, PartialEq, Eq)]
@@ -45,16 +45,6 @@ pub enum Answer {
         next: usize,
         number: Option<u32>,
     },
-}
-
-/// The rows of the paper's window table.
-#[derive(Clone, Copy, Debug, PartialEq, Eq)]
-pub enum Distance {
-    First,
-    Same,
-    New,
-    Outside,
-    Behind,
 }
 
 /// Why a piece contradicts its row (step 3).
@@ -81,7 +71,9 @@ pub enum Step {
 
 /// What tests may want to see of a call. The empty observer costs nothing.
 pub trait Observer {
-    fn distance(&mut self, _case: Distance, _difference: u32, _number: u32) {}
+    fn distance(&mut self, _window: Window, _case: Distance, _difference: u32, _number: u32) {}
+    /// A number enters the window, so that its row becomes Free.
+    fn frees(&mut self, _window: Window, _row: usize, _before: Phase) {}
     /// `end` says whether the piece carries the final index.
     fn step(&mut self, _step: Step, _end: bool) {}
     fn cancel(&mut self, _before: Phase) {}
@@ -243,37 +235,44 @@ impl Row {
 }
 
 impl State {
-    pub const fn start(draft: Draft) -> State {
+    pub const fn start(settings: Settings) -> State {
         State {
-            draft,
+            settings,
             greatest: None,
-            rows: [Row::empty(Phase::Free); ROWS],
+            rows: [Row::empty(Phase::Free); MAX_ROWS],
         }
     }
 
     pub fn is_sound(&self) -> bool {
-        (self.greatest.is_some() || self.rows.iter().all(|row| row.phase == Phase::Free))
-            && self.rows.iter().all(Row::is_sound)
+        // Rows beyond the window carry no meaning, and no row does without a greatest number.
+        let kept = match self.greatest {
+            Some(_) => self.settings.window.rows(),
+            None => 0,
+        };
+        let free = self.rows[kept..].iter().all(|row| row.phase == Phase::Free);
+        free && self.rows.iter().all(Row::is_sound)
     }
 
     /// Places the number in the window and answers its row, or nothing if it lies outside.
     fn enter(&mut self, number: u32, observer: &mut impl Observer) -> Option<usize> {
-        let row = number as usize % ROWS;
+        let window = self.settings.window;
+        let row = window.row_of(number);
         let Some(greatest) = self.greatest else {
-            observer.distance(Distance::First, 0, number);
+            observer.distance(window, Distance::First, 0, number);
             self.greatest = Some(number);
             return Some(row);
         };
         let difference = number.wrapping_sub(greatest);
-        let case = distance(difference);
-        observer.distance(case, difference, number);
+        let case = window.distance(difference);
+        observer.distance(window, case, difference, number);
         match case {
             Distance::Outside => return None,
             Distance::New => {
                 self.greatest = Some(number);
-                let entered = difference.min(ROWS as u32);
-                for back in 0..entered {
-                    self.rows[number.wrapping_sub(back) as usize % ROWS] = Row::empty(Phase::Free);
+                for back in 0..difference.min(window.number()) {
+                    let row = window.row_of(number.wrapping_sub(back));
+                    observer.frees(window, row, self.rows[row].phase);
+                    self.rows[row] = Row::empty(Phase::Free);
                 }
             }
             Distance::First | Distance::Same | Distance::Behind => {}
@@ -306,7 +305,7 @@ impl State {
             Message::Piece(piece) => {
                 let row = self.enter(piece.number, observer)?;
                 let cell = &mut pool[CELL * row..CELL * (row + 1)];
-                let step = self.rows[row].take(self.draft, cell, &piece, output, observer);
+                let step = self.rows[row].take(self.settings.draft, cell, &piece, output, observer);
                 observer.step(step, piece.end);
                 if let Step::Completed(length) = step {
                     return Some((length, Some(piece.number)));
@@ -342,16 +341,6 @@ impl State {
     }
 }
 
-/// The window table for a number `difference` ahead of the greatest, modulo 2^32.
-pub fn distance(difference: u32) -> Distance {
-    match difference {
-        0 => Distance::Same,
-        1..=2_147_483_655 => Distance::New,
-        2_147_483_656..=4_294_967_280 => Distance::Outside,
-        4_294_967_281..=4_294_967_295 => Distance::Behind,
-    }
-}
-
 /// What the receiving call refuses of a frame, and of a place in it.
 #[inline]
 pub fn check_frame(draft: Draft, frame: &[u8], place: u64) -> Result<(), Refusal> {
@@ -377,12 +366,13 @@ pub fn receive(
     if !state.is_sound() {
         return Err(Refusal::UnsoundState);
     }
-    if pool.len() != POOL || output.len() < MIN_OUTPUT {
+    let Settings { draft, window } = state.settings;
+    if pool.len() != window.pool() || output.len() < MIN_OUTPUT {
         return Err(Refusal::PoolOrOutputSize);
     }
-    check_frame(state.draft, frame, place)?;
+    check_frame(draft, frame, place)?;
     let at = place as usize;
-    Ok(match state.draft {
+    Ok(match draft {
         Draft::D00 => state.take::<Layout00>(pool, frame, at, output, observer),
         Draft::D02 => state.take::<Layout02>(pool, frame, at, output, observer),
     })
