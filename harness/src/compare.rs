@@ -1,18 +1,18 @@
 //! Calls made on both sides at once, and what they return and every octet lent compared.
 
 use crate::coverage::{Coverage, NEVER_GIVEN, NEVER_GIVEN_00};
-use crate::generate::{RECEIVER_DRAFT, SENDER_DRAFT};
+use crate::generate::{RECEIVER_DRAFT, RECEIVER_WINDOW, SENDER_DRAFT};
 use crate::model::sender::State;
-use crate::model::{interface, Draft};
+use crate::model::{interface, Draft, Settings, Window};
 use crate::random::Random;
 use crate::side::{Exported, Model, Side};
-use btpu::raw::{self, MIN_OUTPUT, NO_NUMBER, POOL, RECEIVER_IMAGE, SENDER_IMAGE};
+use btpu::raw::{self, MIN_OUTPUT, NO_NUMBER, RECEIVER_IMAGE, SENDER_IMAGE};
 
 mod burst;
 mod recording;
 
 pub use burst::{Burst, Taken};
-pub use recording::{Opened, PlayMemory, Played};
+pub use recording::{Opened, PlayMemory, Played, PLAY_POOL};
 
 /// One run of a scenario. A difference ends it with a message that names scenario and seed.
 pub struct Trial<'a> {
@@ -20,6 +20,8 @@ pub struct Trial<'a> {
     pub seed: u64,
     /// The draft of its boards and senders, which the seed decides unless it is set.
     pub draft: Draft,
+    /// The window of its boards, likewise.
+    pub window: Window,
     pub random: Random,
     pub coverage: &'a mut Coverage,
     calls: u64,
@@ -32,10 +34,21 @@ impl<'a> Trial<'a> {
             scenario,
             seed,
             draft: random.pick(&Draft::BOTH),
+            window: random.pick(&Window::ALL),
             random,
             coverage,
             calls: 0,
         }
+    }
+
+    /// What its boards are set to.
+    pub fn settings(&self) -> Settings {
+        Settings::new(self.draft, self.window)
+    }
+
+    pub fn set(&mut self, settings: Settings) {
+        self.draft = settings.draft;
+        self.window = settings.window;
     }
 
     #[track_caller]
@@ -49,7 +62,10 @@ impl<'a> Trial<'a> {
     pub fn fail(&self, what: &str) -> ! {
         panic!(
             "scenario {}, seed {}, {}, call {}: {what}",
-            self.scenario, self.seed, self.draft, self.calls
+            self.scenario,
+            self.seed,
+            self.settings(),
+            self.calls
         );
     }
 
@@ -125,13 +141,22 @@ impl<'a> Trial<'a> {
         number
     }
 
-    /// The draft of frames that come to this trial's boards: mostly theirs.
-    pub fn draft_of_frames(&mut self) -> Draft {
-        match self.random.once_in(8) {
+    /// The settings that frames for this trial's boards are made for: mostly theirs.
+    pub fn settings_of_frames(&mut self) -> Settings {
+        let draft = match self.random.once_in(8) {
             true => self.draft.other(),
             false => self.draft,
-        }
+        };
+        Settings::new(draft, self.window)
     }
+}
+
+/// What a plain start means.
+const PLAIN: Settings = Settings::new(Draft::D02, Window::PLAIN);
+
+/// The window that an image says.
+fn window_of(image: &[u8; RECEIVER_IMAGE]) -> Option<Window> {
+    Window::of_number(image[RECEIVER_WINDOW].into())
 }
 
 const GUARD: usize = 64;
@@ -220,8 +245,10 @@ pub struct ReceiverPair {
 }
 
 impl ReceiverPair {
+    /// A receiver with this image, and a pool of the image's window or, if it has none, of the trial's.
     pub fn new(trial: &mut Trial, image: &[u8; RECEIVER_IMAGE]) -> ReceiverPair {
-        let pool = trial.random.octets(POOL);
+        let window = window_of(image).unwrap_or(trial.window);
+        let pool = trial.random.octets(window.pool());
         let output = trial.random.octets(MIN_OUTPUT);
         let mut pair = ReceiverPair {
             image: *image,
@@ -241,32 +268,80 @@ impl ReceiverPair {
         pair
     }
 
-    /// A fresh receiver of the trial's draft.
+    /// A fresh receiver of the trial's draft and window.
     pub fn start(trial: &mut Trial) -> ReceiverPair {
         let image = trial.random.array();
         let mut pair = ReceiverPair::new(trial, &image);
-        pair.restart(trial, trial.draft);
+        pair.restart(trial);
         pair
     }
 
-    /// The receiver's start on the images as they are.
-    pub fn restart(&mut self, trial: &mut Trial, draft: Draft) {
+    /// The receiver's start in the trial's draft and window, on the images as they are.
+    pub fn restart(&mut self, trial: &mut Trial) {
+        let number = match trial.settings() {
+            PLAIN if trial.random.once_in(2) => self.plain_start(trial),
+            _ => self.try_start(trial, trial.window.number()),
+        };
+        trial.check(number == 0, "a receiver's start is refused");
+        let settings = self.settings();
+        let cases = trial.coverage.of_mut(trial.draft);
+        cases.of_mut(trial.window).started += 1;
+        trial.check(settings == Some(trial.settings()), "a fresh receiver");
+        self.set_pool(trial, trial.window);
+    }
+
+    /// A start in the trial's draft with this number for its window; the answer is the refusal's number.
+    pub fn try_start(&mut self, trial: &mut Trial, window: u32) -> u32 {
+        let draft = trial.draft;
+        trial.coverage.of_mut(draft).receiver_started(window);
+        let returned = Model::receiver_start(draft, window, &mut self.image);
+        let exported = Exported::receiver_start(draft, window, self.exported_image.array());
+        self.started(trial, draft, returned, exported)
+    }
+
+    /// The start that names neither draft nor window.
+    fn plain_start(&mut self, trial: &mut Trial) -> u32 {
+        trial.coverage.plain_starts += 1;
+        let returned = Model::receiver_plain_start(&mut self.image);
+        let exported = Exported::receiver_plain_start(self.exported_image.array());
+        self.started(trial, Draft::D02, returned, exported)
+    }
+
+    fn started(&mut self, trial: &mut Trial, draft: Draft, returned: u32, exported: u32) -> u32 {
         trial.calls += 1;
         trial.coverage.starts += 1;
-        let returned = Model::receiver_start(draft, &mut self.image);
-        let exported = Exported::receiver_start(draft, self.exported_image.array());
         let number = trial.same_returned(Some(draft), returned, exported);
-        trial.check(number == 0, "a receiver's start is refused");
-        trial.check(self.draft() == Some(draft), "the draft of a fresh receiver");
         self.same_image(trial);
+        if number != 0 {
+            trial.same(&self.image, &self.image_before, "state of a refused start");
+            return number;
+        }
         self.image_before = self.image;
         self.check(trial);
         trial.check(self.sound, "a fresh receiver is not sound");
+        0
+    }
+
+    /// Another pool, unless the one carried has the window's size.
+    fn set_pool(&mut self, trial: &mut Trial, window: Window) {
+        if self.pool.len() != window.pool() {
+            self.pool = trial.random.octets(window.pool());
+            self.pool_before = self.pool.clone();
+            self.exported_pool = Lent::new(&self.pool);
+        }
     }
 
     /// The draft that the image says.
     pub fn draft(&self) -> Option<Draft> {
         Draft::of_octet(self.image[RECEIVER_DRAFT])
+    }
+
+    /// The draft and window that the image says.
+    pub fn settings(&self) -> Option<Settings> {
+        Some(Settings {
+            draft: self.draft()?,
+            window: window_of(&self.image)?,
+        })
     }
 
     pub fn is_sound(&self) -> bool {
@@ -281,9 +356,9 @@ impl ReceiverPair {
         self.sound = trial.same_returned(self.draft(), returned, exported) == 0;
         trial.check(returned <= 1, "another refusal than 1");
         trial.coverage.checks += 1;
-        if let Some(draft) = self.draft() {
-            let cases = trial.coverage.of_mut(draft);
-            cases.checked_receivers[usize::from(!self.sound)] += 1;
+        if let Some(Settings { draft, window }) = self.settings() {
+            let cases = trial.coverage.of_mut(draft).of_mut(window);
+            cases.checked[usize::from(!self.sound)] += 1;
         }
         self.same_image(trial);
     }
@@ -294,11 +369,14 @@ impl ReceiverPair {
         trial.check(self.exported_image.guards_stay(), "written past the image");
     }
 
-    /// Puts another image in place of the carried one.
+    /// Puts another image in place of the carried one, with a pool for its window.
     pub fn set_image(&mut self, trial: &mut Trial, image: &[u8; RECEIVER_IMAGE]) {
         self.image = *image;
         self.image_before = *image;
         self.exported_image = Lent::new(image);
+        if let Some(window) = window_of(image) {
+            self.set_pool(trial, window);
+        }
         self.check(trial);
     }
 
@@ -338,18 +416,23 @@ impl ReceiverPair {
     ) -> Received {
         let lent_result = trial.begin_call();
         trial.coverage.receiving_calls += 1;
+        let settings = self.settings();
         let draft = self.draft();
         self.lend(trial, frame, lending.output);
         let [model, exported] = self.call(trial, frame, place, lending.other_pool, lent_result);
         let number = trial.same_answer(draft, model, exported);
         self.same_lent(trial, frame);
         trial.check((number == 1) != self.sound, "refusal 1 against the check");
-        trial.check(self.draft() == draft, "another draft");
+        trial.check(self.settings() == settings, "another draft or window");
         let (returned, result) = model;
         let received = self.classify(trial, returned, lent_result, result, frame);
-        if let Some(draft) = draft {
-            let cases = trial.coverage.of_mut(draft);
-            cases.received(draft, frame, returned >> 8, received);
+        if let Some(settings) = settings {
+            let cases = trial.coverage.of_mut(settings.draft);
+            cases.received(settings, frame, returned >> 8, received);
+            if let (2, Some(length), MIN_OUTPUT..) = (number, lending.other_pool, lending.output) {
+                let cases = cases.of_mut(settings.window);
+                cases.refused_pool(length, false);
+            }
         }
         self.told = match received {
             Received::Refused(_) => vec![u64::from(returned)],

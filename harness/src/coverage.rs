@@ -5,25 +5,15 @@ use crate::model::Draft;
 
 mod cases;
 mod recordings;
+mod windows;
 
 pub use cases::Cases;
 pub use recordings::Recordings;
+pub use windows::{edges, Windows, NO_WINDOWS, STARTED};
 
 /// Numbers that no call gives, and further ones that none gives with an image of draft 00.
-pub const NEVER_GIVEN: [usize; 5] = [5, 15, 21, 22, 23];
+pub const NEVER_GIVEN: [usize; 4] = [5, 15, 22, 23];
 pub const NEVER_GIVEN_00: [usize; 1] = [7];
-
-/// Differences from the greatest number at the edges of the window table.
-pub const EDGES: [u32; 8] = [
-    0,
-    1,
-    15,
-    16,
-    2_147_483_655,
-    2_147_483_656,
-    4_294_967_280,
-    4_294_967_281,
-];
 
 /// Lengths of frames at the edges of what is allowed.
 pub const FRAME_LENGTHS: [usize; 4] = [0, 1, 2048, 2049];
@@ -37,6 +27,8 @@ pub struct Coverage {
     pub receiving_calls: u64,
     pub sending_calls: u64,
     pub starts: u64,
+    /// Those that name neither draft nor window.
+    pub plain_starts: u64,
     pub checks: u64,
     pub recording_calls: u64,
     pub burst_calls: u64,
@@ -91,6 +83,7 @@ impl Coverage {
         let drafts = Draft::BOTH.map(|draft| self.of(draft).cases(draft));
         [
             drafts.concat(),
+            named("start", &["plain"], &[self.plain_starts]),
             named("frame", &["chain of 1,000 hints"], &[self.long_chains]),
             named("other reserved bits", &frames, &self.reserved_frames),
             named("other reserved bits in type", &types, &self.reserved_types),

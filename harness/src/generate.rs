@@ -1,8 +1,7 @@
 //! Messages, frames and states, good and damaged.
 
-use crate::coverage::EDGES;
-use crate::model::receiver::{distance, Distance};
-use crate::model::{wire, Draft, Layout00, Layout02};
+use crate::coverage::{edges, NO_WINDOWS};
+use crate::model::{wire, Distance, Draft, Layout00, Layout02, Settings, Window, MAX_ROWS};
 use crate::random::Random;
 use btpu::raw::{RECEIVER_IMAGE, SENDER_IMAGE};
 
@@ -10,14 +9,14 @@ mod recordings;
 
 pub use recordings::{
     damage_recording, full_frames, joined, recorded, recorded_frames, recording, sent_frames,
-    small_frames, unrecordable, UNRECORDABLE,
+    small_frames, unrecordable, PLAYBACK, UNRECORDABLE,
 };
 
-/// Where images say their draft.
+/// Where images say their draft, and a receiver's its window.
+pub const RECEIVER_WINDOW: usize = 1;
 pub const RECEIVER_DRAFT: usize = 2;
 pub const SENDER_DRAFT: usize = 9;
 
-pub const ROWS: usize = 16;
 pub const ROW_IMAGE: usize = 196;
 const PIECES: usize = 64;
 const CELL: usize = 4096;
@@ -334,7 +333,7 @@ pub fn honest_messages(random: &mut Random, draft: Draft, transfers: usize) -> V
 }
 
 /// Numbers near the window and far away, as seen from the greatest number so far.
-fn hostile_number(random: &mut Random, greatest: &mut Option<u32>) -> u32 {
+fn hostile_number(random: &mut Random, window: Window, greatest: &mut Option<u32>) -> u32 {
     let Some(from) = *greatest else {
         let number = first_number(random);
         *greatest = Some(number);
@@ -342,17 +341,24 @@ fn hostile_number(random: &mut Random, greatest: &mut Option<u32>) -> u32 {
     };
     let difference = match random.below(24) {
         0..=9 => 0u32.wrapping_sub(random.below(3) as u32),
-        10..=15 => 0u32.wrapping_sub(random.below(18) as u32),
+        10..=15 => 0u32.wrapping_sub(random.below(window.rows() + 2) as u32),
         16..=18 => random.below(3) as u32,
-        19 => random.below(20) as u32,
+        19 => random.below(window.rows() + 4) as u32,
         20 => random.word(),
-        _ => random.pick(&EDGES),
+        21 => edge_of_any_window(random),
+        _ => random.pick(&edges(window)),
     };
     let number = from.wrapping_add(difference);
-    if distance(difference) == Distance::New {
+    if window.distance(difference) == Distance::New {
         *greatest = Some(number);
     }
     number
+}
+
+/// The edges of the other windows are no edges of a board's own.
+fn edge_of_any_window(random: &mut Random) -> u32 {
+    let window = random.pick(&Window::ALL);
+    random.pick(&edges(window))
 }
 
 fn hostile_index(random: &mut Random) -> u32 {
@@ -374,7 +380,11 @@ fn data_length(random: &mut Random) -> usize {
 }
 
 /// One well-formed message with a hostile number and index.
-pub fn hostile_message(random: &mut Random, draft: Draft, greatest: &mut Option<u32>) -> Vec<u8> {
+pub fn hostile_message(
+    random: &mut Random,
+    Settings { draft, window }: Settings,
+    greatest: &mut Option<u32>,
+) -> Vec<u8> {
     let chain = hints(random, draft, 24);
     match random.below(20) {
         0 => passed(random, draft, 40),
@@ -382,10 +392,10 @@ pub fn hostile_message(random: &mut Random, draft: Draft, greatest: &mut Option<
             let length = random.below(40);
             message(BUNDLE, &chain, &random.octets(length))
         }
-        2 => cancel(hostile_number(random, greatest), &chain),
+        2 => cancel(hostile_number(random, window, greatest), &chain),
         _ => {
             let piece = Piece {
-                number: hostile_number(random, greatest),
+                number: hostile_number(random, window, greatest),
                 index: hostile_index(random),
                 end: random.once_in(4),
             };
@@ -396,11 +406,16 @@ pub fn hostile_message(random: &mut Random, draft: Draft, greatest: &mut Option<
 }
 
 /// A well-formed frame of hostile messages.
-pub fn hostile_frame(random: &mut Random, draft: Draft, mut greatest: Option<u32>) -> Vec<u8> {
+pub fn hostile_frame(
+    random: &mut Random,
+    settings: Settings,
+    mut greatest: Option<u32>,
+) -> Vec<u8> {
+    let draft = settings.draft;
     let size = random.pick(&[60, 300, MAX_FRAME]);
     let mut frame = Vec::new();
     loop {
-        let message = hostile_message(random, draft, &mut greatest);
+        let message = hostile_message(random, settings, &mut greatest);
         if frame.len() + message.len() > size {
             break;
         }
@@ -617,20 +632,21 @@ fn piece_count(random: &mut Random) -> usize {
 }
 
 /// The image of a fresh receiver.
-pub fn fresh_receiver(draft: Draft) -> [u8; RECEIVER_IMAGE] {
+pub fn fresh_receiver(settings: Settings) -> [u8; RECEIVER_IMAGE] {
     let mut image = [0; RECEIVER_IMAGE];
-    image[RECEIVER_DRAFT] = draft.octet();
+    image[RECEIVER_WINDOW] = settings.window.octet();
+    image[RECEIVER_DRAFT] = settings.draft.octet();
     image
 }
 
 /// The image of a sound receiver with a greatest number and rows of every kind.
-pub fn sound_receiver(random: &mut Random, draft: Draft) -> [u8; RECEIVER_IMAGE] {
-    let mut image = fresh_receiver(draft);
+pub fn sound_receiver(random: &mut Random, settings: Settings) -> [u8; RECEIVER_IMAGE] {
+    let mut image = fresh_receiver(settings);
     image[0] = 1;
     let greatest = first_number(random);
     image[4..8].copy_from_slice(&greatest.to_be_bytes());
     let style = random.below(8);
-    for place in 0..ROWS {
+    for place in 0..settings.window.rows() {
         let phase = if style < 2 {
             style as u8
         } else {
@@ -647,14 +663,27 @@ pub fn sound_receiver(random: &mut Random, draft: Draft) -> [u8; RECEIVER_IMAGE]
     image
 }
 
-/// The damage to an image that a draft would undo.
+/// The image of a sound receiver without a Free row.
+pub fn busy_receiver(random: &mut Random, settings: Settings) -> [u8; RECEIVER_IMAGE] {
+    let mut image = sound_receiver(random, settings);
+    for place in 0..settings.window.rows() {
+        let octets = row_mut(&mut image, place);
+        if octets[0] == 0 {
+            octets[0] = random.pick(&[2, 3, 4]);
+        }
+    }
+    image
+}
+
+/// The damage to an image that a draft would undo, and that a window would.
 pub const NO_DRAFT: &str = "draft's octet above 1";
+pub const NO_WINDOW: &str = "window's octet not 4, 8 or 16";
 
 /// The ways in which a receiver's image is unsound or no state.
-pub const RECEIVER_DAMAGE: [&str; 25] = [
+pub const RECEIVER_DAMAGE: [&str; 26] = [
     "erased from an octet on",
     "G's flag above 1",
-    "octet 1 or 3 not zero",
+    "octet 3 not zero",
     "G absent and not zero",
     "G absent, a row not Free",
     "phase above 4",
@@ -677,12 +706,17 @@ pub const RECEIVER_DAMAGE: [&str; 25] = [
     "index in a row not Open",
     "length in a row not Open",
     NO_DRAFT,
+    NO_WINDOW,
 ];
 
 /// An image of a receiver that must be refused, damaged in the way of that place in the list.
-pub fn unsound_receiver(random: &mut Random, draft: Draft, damage: usize) -> [u8; RECEIVER_IMAGE] {
-    let mut image = sound_receiver(random, draft);
-    let place = random.below(ROWS);
+pub fn unsound_receiver(
+    random: &mut Random,
+    settings: Settings,
+    damage: usize,
+) -> [u8; RECEIVER_IMAGE] {
+    let mut image = sound_receiver(random, settings);
+    let place = random.below(settings.window.rows());
     let wrong_flag = random.within(2, 255) as u8;
     let not_zero = random.within(1, 255) as u8;
     let phase = random.pick(&[0, 2, 3, 4]);
@@ -698,17 +732,17 @@ pub fn unsound_receiver(random: &mut Random, draft: Draft, damage: usize) -> [u8
             return image;
         }
         2 => {
-            image[random.pick(&[1, 3])] = not_zero;
+            image[3] = not_zero;
             return image;
         }
         3 => {
-            image = fresh_receiver(draft);
+            image = fresh_receiver(settings);
             image[random.within(4, 7)] = not_zero;
             return image;
         }
         4 => {
             let kept = row(&image, place).to_vec();
-            image = fresh_receiver(draft);
+            image = fresh_receiver(settings);
             let octets = row_mut(&mut image, place);
             octets.copy_from_slice(&kept);
             if octets[0] == 0 {
@@ -718,6 +752,10 @@ pub fn unsound_receiver(random: &mut Random, draft: Draft, damage: usize) -> [u8
         }
         24 => {
             image[RECEIVER_DRAFT] = random.pick(&[2, 255, wrong_flag]);
+            return image;
+        }
+        25 => {
+            image[RECEIVER_WINDOW] = random.pick(&NO_WINDOWS);
             return image;
         }
         _ => {}
@@ -862,6 +900,37 @@ pub fn unsound_receiver(random: &mut Random, draft: Draft, damage: usize) -> [u8
                 }
             }
         }
+    }
+    image
+}
+
+/// What may stand in a row beyond the window of an image: an Open row, another one, an octet anywhere.
+#[derive(Clone, Copy, Debug, PartialEq, Eq)]
+pub enum Beyond {
+    Open,
+    NotOpen,
+    Octet,
+}
+
+impl Beyond {
+    pub const ALL: [Beyond; 3] = [Beyond::Open, Beyond::NotOpen, Beyond::Octet];
+}
+
+/// The image of a receiver, sound but for what stands in a row beyond its window, which is not 16.
+pub fn with_beyond(random: &mut Random, settings: Settings, way: Beyond) -> [u8; RECEIVER_IMAGE] {
+    let mut image = match random.once_in(4) {
+        true => fresh_receiver(settings),
+        false => sound_receiver(random, settings),
+    };
+    let place = random.edge_or_within(settings.window.rows(), MAX_ROWS - 1);
+    let octets = row_mut(&mut image, place);
+    match way {
+        Beyond::Open => {
+            let count = piece_count(random);
+            OpenRow::sound(random, count).write(octets);
+        }
+        Beyond::NotOpen => octets[0] = random.pick(&[2, 3, 4]),
+        Beyond::Octet => octets[random.below(ROW_IMAGE)] = 1 << random.below(8),
     }
     image
 }

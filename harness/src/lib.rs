@@ -1,7 +1,8 @@
-//! Tests of the exported library: an independent model of document 01, the test vectors,
+//! Tests of the exported library: an independent model of documents 01 and 02, the test vectors,
 //! generated input and measurements of speed.
 
 pub mod baseline;
+pub mod board;
 pub mod compare;
 pub mod coverage;
 pub mod generate;

@@ -3,20 +3,21 @@
 use crate::compare::{Lending, Received, ReceiverPair, Send, SenderPair, Sent, Trial};
 use crate::coverage::{Coverage, FRAME_LENGTHS};
 use crate::generate::{
-    self, OpenRow, Piece, SenderEntries, BUNDLE, NO_DRAFT, RECEIVER_DAMAGE, RECEIVER_DRAFT, ROWS,
+    self, OpenRow, Piece, SenderEntries, BUNDLE, NO_DRAFT, RECEIVER_DAMAGE, RECEIVER_DRAFT,
     SENDER_DAMAGE, SENDER_DRAFT,
 };
 use crate::model::receiver::CELL;
-use crate::model::Draft;
+use crate::model::{Draft, Settings, Window, MAX_ROWS};
 use crate::random::Random;
-use btpu::raw::{POOL, RECEIVER_IMAGE};
+use btpu::raw::RECEIVER_IMAGE;
 
 mod bursts;
 pub mod recordings;
+mod windows;
 
 type Scenario = (&'static str, fn(&mut Trial));
 
-pub const SCENARIOS: [Scenario; 25] = [
+pub const SCENARIOS: [Scenario; 30] = [
     ("honest", honest),
     ("sent", sent),
     ("hostile", hostile),
@@ -32,6 +33,11 @@ pub const SCENARIOS: [Scenario; 25] = [
     ("lending", lending),
     ("sound receivers", sound_receivers),
     ("unsound receivers", unsound_receivers),
+    ("window edges", windows::edges),
+    ("window images", windows::images),
+    ("window pools", windows::pools),
+    ("window starts", windows::starts),
+    ("three windows", windows::three_windows),
     ("sending", sending),
     ("fills", fills),
     ("sound senders", sound_senders),
@@ -61,13 +67,23 @@ pub fn run_all(seed: u64, coverage: &mut Coverage, mut more: impl FnMut(&Coverag
     }
 }
 
-/// A state of the trial's draft to begin with: fresh, or any sound one.
+/// A state of the trial's draft and window to begin with: fresh, or any sound one.
 fn some_receiver(trial: &mut Trial) -> ReceiverPair {
     if trial.random.once_in(2) {
         return ReceiverPair::start(trial);
     }
-    let image = generate::sound_receiver(&mut trial.random, trial.draft);
+    let settings = trial.settings();
+    let image = generate::sound_receiver(&mut trial.random, settings);
     ReceiverPair::new(trial, &image)
+}
+
+/// The length of a pool that is refused with a board of the trial's window: another window's, or another.
+fn wrong_pool(trial: &mut Trial) -> usize {
+    let right = trial.window.pool();
+    let mut wrong = vec![0, 1, CELL - 1, right - 1, right + 1, 2 * right + 1];
+    let others = Window::ALL.map(Window::pool);
+    wrong.extend(others.iter().filter(|&&pool| pool != right));
+    trial.random.pick(&wrong)
 }
 
 /// A call that may stand between the calls of a frame and must be refused.
@@ -80,7 +96,7 @@ fn refused_between(trial: &mut Trial, receiver: &mut ReceiverPair, frame: &[u8])
             2
         }
         1 => {
-            lending.other_pool = Some(trial.random.pick(&[0, 1, POOL - 1, POOL + 1]));
+            lending.other_pool = Some(wrong_pool(trial));
             2
         }
         _ => {
@@ -211,9 +227,15 @@ fn check_pieces(trial: &Trial, frames: &[Vec<u8>]) {
 fn hostile(trial: &mut Trial) {
     let mut receiver = some_receiver(trial);
     for _ in 0..trial.random.within(1, 12) {
-        let frame = generate::hostile_frame(&mut trial.random, trial.draft, receiver.greatest());
+        let frame = hostile_frame(trial, &receiver);
         receiver.take(trial, &frame, &mut |_| {});
     }
+}
+
+/// A frame of hostile messages for a board of the trial.
+fn hostile_frame(trial: &mut Trial, receiver: &ReceiverPair) -> Vec<u8> {
+    let settings = trial.settings();
+    generate::hostile_frame(&mut trial.random, settings, receiver.greatest())
 }
 
 /// A board gets frames of the other draft among its own. Draft 00 refuses those of draft 02 that have
@@ -230,11 +252,10 @@ fn other_draft(trial: &mut Trial) {
         _ => Vec::new(),
     };
     for _ in 0..trial.random.within(1, 6) {
-        frames.push(generate::hostile_frame(
-            &mut trial.random,
-            other,
-            receiver.greatest(),
-        ));
+        let settings = Settings::new(other, trial.window);
+        let greatest = receiver.greatest();
+        let frame = generate::hostile_frame(&mut trial.random, settings, greatest);
+        frames.push(frame);
     }
     for frame in &frames {
         let flagged = generate::headers(other, frame)
@@ -252,7 +273,7 @@ fn other_draft(trial: &mut Trial) {
         let cases = trial.coverage.of_mut(trial.draft);
         cases.other_frames[usize::from(refused)] += 1;
         if trial.random.once_in(3) {
-            let own = generate::hostile_frame(&mut trial.random, trial.draft, receiver.greatest());
+            let own = hostile_frame(trial, &receiver);
             receiver.take(trial, &own, &mut |_| {});
         }
     }
@@ -263,8 +284,7 @@ fn other_draft(trial: &mut Trial) {
 fn long_lengths(trial: &mut Trial) {
     let mut receiver = some_receiver(trial);
     for _ in 0..trial.random.within(2, 8) {
-        let mut frame =
-            generate::hostile_frame(&mut trial.random, trial.draft, receiver.greatest());
+        let mut frame = hostile_frame(trial, &receiver);
         let headers = generate::headers(trial.draft, &frame);
         if headers.is_empty() {
             continue;
@@ -285,8 +305,7 @@ fn long_lengths(trial: &mut Trial) {
 fn malformed(trial: &mut Trial) {
     let mut receiver = some_receiver(trial);
     for _ in 0..trial.random.within(4, 16) {
-        let mut frame =
-            generate::hostile_frame(&mut trial.random, trial.draft, receiver.greatest());
+        let mut frame = hostile_frame(trial, &receiver);
         for _ in 0..trial.random.within(1, 2) {
             generate::damage_frame(&mut trial.random, trial.draft, &mut frame);
         }
@@ -318,7 +337,8 @@ fn places(trial: &mut Trial) {
         let message = if trial.random.once_in(2) {
             generate::passed(&mut trial.random, trial.draft, 20)
         } else {
-            generate::hostile_message(&mut trial.random, trial.draft, &mut greatest)
+            let settings = trial.settings();
+            generate::hostile_message(&mut trial.random, settings, &mut greatest)
         };
         if frame.len() + message.len() <= 120 {
             frame.extend(message);
@@ -475,7 +495,7 @@ fn reserved_bits(trial: &mut Trial) {
     for _ in 0..trial.random.within(4, 16) {
         let mut frame = match trial.random.below(8) {
             0 => generate::random_frame(&mut trial.random),
-            _ => generate::hostile_frame(&mut trial.random, trial.draft, receiver.greatest()),
+            _ => hostile_frame(trial, &receiver),
         };
         if trial.random.once_in(3) && !frame.is_empty() {
             generate::damage_frame(&mut trial.random, trial.draft, &mut frame);
@@ -545,8 +565,7 @@ pub fn long_lengths_of_every_type(trial: &mut Trial) {
 fn lending(trial: &mut Trial) {
     let mut receiver = some_receiver(trial);
     for _ in 0..trial.random.within(4, 16) {
-        let mut frame =
-            generate::hostile_frame(&mut trial.random, trial.draft, receiver.greatest());
+        let mut frame = hostile_frame(trial, &receiver);
         if trial.random.once_in(3) {
             let length = trial.random.pick(&FRAME_LENGTHS);
             frame.resize(length, 0);
@@ -555,11 +574,11 @@ fn lending(trial: &mut Trial) {
             generate::damage_frame(&mut trial.random, trial.draft, &mut frame);
         }
         let lending = Lending {
-            other_pool: trial.random.once_in(3).then(|| {
-                trial
-                    .random
-                    .pick(&[0, 1, 4096, POOL - 1, POOL, POOL + 1, 2 * POOL])
-            }),
+            other_pool: match trial.random.below(6) {
+                0 => Some(trial.window.pool()),
+                1 => Some(wrong_pool(trial)),
+                _ => None,
+            },
             output: trial
                 .random
                 .pick(&[0, 1, 2048, 4095, 4096, 4096, 4097, 6000]),
@@ -571,21 +590,24 @@ fn lending(trial: &mut Trial) {
 
 /// Any sound state, then pieces that just fit, complete, repeat, contradict or overflow its rows.
 fn sound_receivers(trial: &mut Trial) {
-    let mut image = generate::sound_receiver(&mut trial.random, trial.draft.other());
+    let other = Settings::new(trial.draft.other(), trial.window);
+    let mut image = generate::sound_receiver(&mut trial.random, other);
     let receiver = ReceiverPair::new(trial, &image);
     trial.check(receiver.is_sound(), "sound in one draft alone");
     image[RECEIVER_DRAFT] = trial.draft.octet();
     let mut receiver = ReceiverPair::new(trial, &image);
     for _ in 0..trial.random.within(8, 40) {
         let greatest = receiver.greatest().expect("it stays");
-        let number = greatest.wrapping_sub(trial.random.below(ROWS) as u32);
-        let octets = generate::row(receiver.image(), number as usize % ROWS);
+        let rows = trial.window.rows();
+        let number = greatest.wrapping_sub(trial.random.below(rows) as u32);
+        let octets = generate::row(receiver.image(), number as usize % rows);
         let frame = if octets[0] == 1 {
             let open = OpenRow::read(octets);
             let (piece, data) = generate::piece_for(&mut trial.random, &open, number);
             piece.message(trial.draft, &[], &data)
         } else {
-            generate::hostile_message(&mut trial.random, trial.draft, &mut Some(number))
+            let settings = trial.settings();
+            generate::hostile_message(&mut trial.random, settings, &mut Some(number))
         };
         let received = receiver.receive(trial, &frame, 0, Lending::default());
         trial.check(
@@ -597,7 +619,8 @@ fn sound_receivers(trial: &mut Trial) {
 
 fn unsound_receivers(trial: &mut Trial) {
     for (damage, &name) in RECEIVER_DAMAGE.iter().enumerate() {
-        let mut image = generate::unsound_receiver(&mut trial.random, trial.draft, damage);
+        let settings = trial.settings();
+        let mut image = generate::unsound_receiver(&mut trial.random, settings, damage);
         let mut receiver = ReceiverPair::new(trial, &image);
         let frame = generate::random_frame(&mut trial.random);
         let mut lending = Lending::default();
@@ -616,7 +639,7 @@ fn unsound_receivers(trial: &mut Trial) {
             receiver.is_sound() == (name == NO_DRAFT),
             &format!("in the other draft: {name}"),
         );
-        receiver.restart(trial, trial.draft);
+        receiver.restart(trial);
     }
     damaged_receivers(trial);
 }
@@ -625,18 +648,19 @@ fn unsound_receivers(trial: &mut Trial) {
 fn damaged_receivers(trial: &mut Trial) {
     let mut receiver = some_receiver(trial);
     for _ in 0..16 {
-        let mut image = generate::sound_receiver(&mut trial.random, trial.draft);
+        let settings = trial.settings();
+        let mut image = generate::sound_receiver(&mut trial.random, settings);
         for _ in 0..trial.random.within(1, 3) {
-            let row = 8 + trial.random.below(ROWS) * generate::ROW_IMAGE;
+            let row = 8 + trial.random.below(MAX_ROWS) * generate::ROW_IMAGE;
             let at = match trial.random.below(3) {
                 0 => trial.random.below(8),
                 1 => row + trial.random.below(12),
                 _ => trial.random.below(RECEIVER_IMAGE),
             };
-            image[at] = trial.random.pick(&[0, 1, 2, 63, 64, 255]);
+            image[at] = trial.random.pick(&[0, 1, 2, 4, 8, 16, 63, 64, 255]);
         }
         receiver.set_image(trial, &image);
-        let frame = generate::hostile_frame(&mut trial.random, trial.draft, Some(7));
+        let frame = generate::hostile_frame(&mut trial.random, settings, Some(7));
         receiver.receive(trial, &frame, 0, Lending::default());
     }
 }
@@ -875,9 +899,5 @@ fn starts(trial: &mut Trial) {
         let number = sender.restart(trial, trial.draft, size, first);
         let expected = if (128..=2048).contains(&size) { 0 } else { 14 };
         trial.check(number == expected, "sender's start");
-    }
-    for _ in 0..4 {
-        let image = trial.random.array();
-        ReceiverPair::new(trial, &image).restart(trial, trial.draft);
     }
 }

@@ -2,17 +2,22 @@
 //! the receiver on the image the same image and pool. They know draft 02 alone.
 
 use harness::baseline::{inplace, natural};
-use harness::coverage::{Cases, EDGES, FRAME_LENGTHS};
-use harness::generate::{self, OpenRow, Piece, RECEIVER_DAMAGE, RECEIVER_DRAFT, ROWS};
+use harness::coverage::{Cases, FRAME_LENGTHS};
+use harness::generate::{self, Beyond, OpenRow, Piece, RECEIVER_DAMAGE, RECEIVER_DRAFT};
 use harness::model::image::RECEIVER as RECEIVER_IMAGE;
-use harness::model::receiver::{Answer, State, CELL, MIN_OUTPUT, POOL};
-use harness::model::{interface, Draft, Refusal};
+use harness::model::receiver::{Answer, State, CELL, MIN_OUTPUT};
+use harness::model::{interface, Draft, Refusal, Settings, Window};
 use harness::random::Random;
 
 const DRAFT: Draft = Draft::D02;
 const SEED: u64 = 3_144;
 const ROUNDS: u64 = 2_500;
 const FLOOR: u64 = 200;
+
+/// Draft 02, and any window.
+fn any_settings(random: &mut Random) -> Settings {
+    Settings::new(DRAFT, random.pick(&Window::ALL))
+}
 
 /// Refusals by number; entry 0 counts the calls that were not refused.
 type Refusals = [u64; 10];
@@ -39,8 +44,11 @@ struct Receivers {
 }
 
 impl Receivers {
+    /// With a pool of the image's window; where the image has none, of any window.
     fn new(random: &mut Random, image: &[u8; RECEIVER_IMAGE]) -> Receivers {
-        let pool = random.octets(POOL);
+        let window = Window::of_number(image[1].into());
+        let window = window.unwrap_or_else(|| random.pick(&Window::ALL));
+        let pool = random.octets(window.pool());
         let output = random.array();
         let sound = State::decode(image).filter(State::is_sound);
         Receivers {
@@ -55,13 +63,25 @@ impl Receivers {
         }
     }
 
+    fn fresh(random: &mut Random) -> Receivers {
+        let settings = any_settings(random);
+        Receivers::new(random, &generate::fresh_receiver(settings))
+    }
+
     /// Fresh, or with any sound state.
     fn some(random: &mut Random) -> Receivers {
-        let image = match random.once_in(2) {
-            true => [0; RECEIVER_IMAGE],
-            false => generate::sound_receiver(random, DRAFT),
-        };
+        if random.once_in(2) {
+            return Receivers::fresh(random);
+        }
+        let settings = any_settings(random);
+        let image = generate::sound_receiver(random, settings);
         Receivers::new(random, &image)
+    }
+
+    /// What the image says.
+    fn settings(&self) -> Settings {
+        let window = Window::of_number(self.image[1].into());
+        Settings::new(DRAFT, window.expect("a window"))
     }
 
     fn greatest(&self) -> Option<u32> {
@@ -161,7 +181,7 @@ fn told(answer: Result<Answer, Refusal>, lent: [u64; 4]) -> (u32, [u64; 4]) {
 }
 
 fn honest(random: &mut Random, tally: &mut Tally) {
-    let mut receivers = Receivers::new(random, &[0; RECEIVER_IMAGE]);
+    let mut receivers = Receivers::fresh(random);
     let transfers = random.within(1, 24);
     let messages = generate::honest_messages(random, DRAFT, transfers);
     let size = random.pick(&[100, 400, 1000, 2048]);
@@ -173,7 +193,7 @@ fn honest(random: &mut Random, tally: &mut Tally) {
 fn hostile(random: &mut Random, tally: &mut Tally) {
     let mut receivers = Receivers::some(random);
     for _ in 0..random.within(1, 12) {
-        let frame = generate::hostile_frame(random, DRAFT, receivers.greatest());
+        let frame = generate::hostile_frame(random, receivers.settings(), receivers.greatest());
         receivers.take(tally, &frame);
     }
 }
@@ -181,7 +201,8 @@ fn hostile(random: &mut Random, tally: &mut Tally) {
 fn malformed(random: &mut Random, tally: &mut Tally) {
     let mut receivers = Receivers::some(random);
     for _ in 0..random.within(4, 16) {
-        let mut frame = generate::hostile_frame(random, DRAFT, receivers.greatest());
+        let settings = receivers.settings();
+        let mut frame = generate::hostile_frame(random, settings, receivers.greatest());
         for _ in 0..random.within(1, 2) {
             generate::damage_frame(random, DRAFT, &mut frame);
         }
@@ -207,7 +228,8 @@ fn places(random: &mut Random, tally: &mut Tally) {
     let mut greatest = receivers.greatest();
     let mut frame = generate::passed(random, DRAFT, 20);
     for _ in 0..random.within(1, 4) {
-        let message = generate::hostile_message(random, DRAFT, &mut greatest);
+        let settings = receivers.settings();
+        let message = generate::hostile_message(random, settings, &mut greatest);
         if frame.len() + message.len() <= 120 {
             frame.extend(message);
         }
@@ -220,18 +242,20 @@ fn places(random: &mut Random, tally: &mut Tally) {
 
 /// Pieces that just fit, complete, repeat, contradict or overflow the rows of a sound state.
 fn rows(random: &mut Random, tally: &mut Tally) {
-    let image = generate::sound_receiver(random, DRAFT);
+    let settings = any_settings(random);
+    let image = generate::sound_receiver(random, settings);
     let mut receivers = Receivers::new(random, &image);
+    let rows = settings.window.rows();
     for _ in 0..random.within(8, 40) {
         let greatest = receivers.greatest().expect("it stays");
-        let number = greatest.wrapping_sub(random.below(ROWS) as u32);
-        let row = generate::row(&receivers.image, number as usize % ROWS);
+        let number = greatest.wrapping_sub(random.below(rows) as u32);
+        let row = generate::row(&receivers.image, number as usize % rows);
         let frame = match row[0] {
             1 => {
                 let (piece, data) = generate::piece_for(random, &OpenRow::read(row), number);
                 piece.message(DRAFT, &[], &data)
             }
-            _ => generate::hostile_message(random, DRAFT, &mut Some(number)),
+            _ => generate::hostile_message(random, settings, &mut Some(number)),
         };
         receivers.receive(tally, &frame, 0);
     }
@@ -239,7 +263,7 @@ fn rows(random: &mut Random, tally: &mut Tally) {
 
 /// Transfers of up to 64 pieces in rising, falling or any order, that come in single frames.
 fn joins(random: &mut Random, tally: &mut Tally) {
-    let mut receivers = Receivers::new(random, &[0; RECEIVER_IMAGE]);
+    let mut receivers = Receivers::fresh(random);
     let number = generate::first_number(random);
     let length = match random.once_in(2) {
         true => CELL,
@@ -269,12 +293,19 @@ fn joins(random: &mut Random, tally: &mut Tally) {
 /// Wrong sizes of what is lent, which the natural receiver cannot be given.
 fn lending(random: &mut Random, tally: &mut Tally) {
     let receivers = Receivers::some(random);
+    let settings = receivers.settings();
+    let right = settings.window.pool();
+    let [four, eight, sixteen] = Window::ALL.map(Window::pool);
     for _ in 0..random.within(2, 8) {
-        let mut frame = generate::hostile_frame(random, DRAFT, receivers.greatest());
+        let mut frame = generate::hostile_frame(random, settings, receivers.greatest());
         if random.once_in(3) {
             frame.resize(random.pick(&FRAME_LENGTHS), 0);
         }
-        let pool = random.pick(&[0, 1, POOL - 1, POOL, POOL, POOL + 1]);
+        let wrong = [0, 1, right - 1, right + 1, four, eight, sixteen];
+        let pool = match random.once_in(2) {
+            true => right,
+            false => random.pick(&wrong),
+        };
         let output = random.pick(&[0, 1, 4095, 4096, 4097, 6000]);
         let place = random.pick(&[0, 0, 0, 1, frame.len() as u64]);
         receivers.receive_lending(tally, &frame, place, [pool, output]);
@@ -282,13 +313,24 @@ fn lending(random: &mut Random, tally: &mut Tally) {
 }
 
 fn unsound(random: &mut Random, tally: &mut Tally) {
+    let settings = any_settings(random);
     for (damage, name) in RECEIVER_DAMAGE.iter().enumerate() {
-        let image = generate::unsound_receiver(random, DRAFT, damage);
-        let before = tally.inplace[1];
-        let mut receivers = Receivers::new(random, &image);
-        receivers.receive(tally, &generate::random_frame(random), 0);
-        assert_eq!(tally.inplace[1], before + 1, "{name}");
+        let image = generate::unsound_receiver(random, settings, damage);
+        refused(random, tally, &image, name);
     }
+    if settings.window != Window::Sixteen {
+        for way in Beyond::ALL {
+            let image = generate::with_beyond(random, settings, way);
+            refused(random, tally, &image, "beyond the window");
+        }
+    }
+}
+
+fn refused(random: &mut Random, tally: &mut Tally, image: &[u8; RECEIVER_IMAGE], name: &str) {
+    let before = tally.inplace[1];
+    let mut receivers = Receivers::new(random, image);
+    receivers.receive(tally, &generate::random_frame(random), 0);
+    assert_eq!(tally.inplace[1], before + 1, "{name}");
 }
 
 const GENERATED: [fn(&mut Random, &mut Tally); 9] = [
@@ -317,7 +359,7 @@ fn the_baselines_agree_with_the_model() {
     println!("{} bundles", tally.bundles);
     let reached = &tally.reached;
     println!("row steps {:?}, joins {:?}", reached.steps, reached.joins);
-    println!("differences {EDGES:?}: {:?}", reached.edges);
+    check_windows(reached);
     for number in [0, 1, 2, 3, 4, 6, 7, 8, 9] {
         assert!(tally.inplace[number] >= FLOOR, "in place: {number}");
         let cannot = number == 1 || number == 2;
@@ -325,8 +367,7 @@ fn the_baselines_agree_with_the_model() {
     }
     let [segments, ends] = reached.steps.each_ref().map(|steps| &steps[1..]);
     let counts = [segments, ends, &reached.contradictions, &reached.joins];
-    let more = [&reached.edges[..], &reached.cancels, &reached.distances];
-    for counts in counts.iter().chain(&more) {
+    for counts in counts.iter().chain([&&reached.cancels[..]]) {
         assert!(counts.iter().all(|&count| count >= FLOOR), "{counts:?}");
     }
     assert!(sum(&tally.inplace) >= 300_000);
@@ -334,18 +375,30 @@ fn the_baselines_agree_with_the_model() {
     assert!(tally.bundles >= 40_000);
 }
 
+/// Every row of each window's table was reached, and every edge.
+fn check_windows(reached: &Cases) {
+    for window in Window::ALL {
+        let reached = reached.of(window);
+        println!("{window}: differences {:?}", reached.edges);
+        for counts in [&reached.edges[..], &reached.distances] {
+            let enough = counts.iter().all(|&count| count >= FLOOR);
+            assert!(enough, "{window}: {counts:?}");
+        }
+    }
+}
+
 /// Every octet of some images set to values that mean something in one place or another.
 #[test]
 fn every_octet_of_some_images() {
     let mut random = Random::new(SEED);
     let (mut sound, mut unsound) = (0, 0);
-    for _ in 0..12 {
-        let image = generate::sound_receiver(&mut random, DRAFT);
-        let (mut pool, mut output) = (vec![0; POOL], [0; MIN_OUTPUT]);
+    for window in Window::ALL.into_iter().cycle().take(12) {
+        let image = generate::sound_receiver(&mut random, Settings::new(DRAFT, window));
+        let (mut pool, mut output) = (vec![0; 65_536], [0; MIN_OUTPUT]);
         for at in 0..RECEIVER_IMAGE {
             let before = image[at];
             let near = [before.wrapping_sub(1), before.wrapping_add(1)];
-            for octet in near.into_iter().chain([0, 1, 4, 5, 63, 64, 255]) {
+            for octet in near.into_iter().chain([0, 1, 4, 5, 8, 16, 63, 64, 255]) {
                 let mut changed = image;
                 changed[at] = octet;
                 let expected = match changed[RECEIVER_DRAFT] {
@@ -354,8 +407,10 @@ fn every_octet_of_some_images() {
                 };
                 let left = changed;
                 let lent = &mut [0; 4];
-                let returned =
-                    inplace::receive(&mut changed, &mut pool, &[0], 0, &mut output, lent);
+                // Only octet 1 makes it another window, with a pool of another size.
+                let now = Window::of_number(changed[1].into()).unwrap_or(window);
+                let pool = &mut pool[..now.pool()];
+                let returned = inplace::receive(&mut changed, pool, &[0], 0, &mut output, lent);
                 assert_eq!(returned, expected, "octet {at} is {octet}");
                 assert!(changed == left, "image");
                 match returned {

@@ -1,12 +1,11 @@
-//! Bursts: the exported call against the model, and against single calls, in both drafts.
+//! Bursts: the exported call against the model, and against single calls, in both drafts and every window.
 
-use btpu::raw::{
-    BURST_BUNDLES, BURST_FRAMES, BURST_RESULT, MAX_FRAME, MIN_OUTPUT, POOL, RECEIVER_IMAGE,
-};
+use btpu::raw::{BURST_BUNDLES, BURST_FRAMES, BURST_RESULT, MAX_FRAME, MIN_OUTPUT, RECEIVER_IMAGE};
 use harness::baseline::natural;
+use harness::board::HandedOut;
 use harness::generate::{self, BUNDLE, RECEIVER_DAMAGE};
 use harness::model::receiver::State;
-use harness::model::Draft;
+use harness::model::{Draft, Settings, Window};
 use harness::random::Random;
 use harness::side::{Exported, Model, Side};
 
@@ -55,8 +54,9 @@ impl Memory {
         }
     }
 
-    fn fresh(random: &mut Random, draft: Draft, output: usize) -> Memory {
-        Memory::new(random, generate::fresh_receiver(draft), POOL, output)
+    fn fresh(random: &mut Random, settings: Settings, output: usize) -> Memory {
+        let image = generate::fresh_receiver(settings);
+        Memory::new(random, image, settings.window.pool(), output)
     }
 
     fn room(&self) -> usize {
@@ -111,7 +111,7 @@ impl Memory {
     }
 
     /// The bundles with their numbers, and the notes, that a call left.
-    fn handed_out(&self) -> (Vec<(u64, Vec<u8>)>, Vec<(u32, u32)>) {
+    fn handed_out(&self) -> HandedOut {
         let [count, octets, _, _, refused] = self.result.map(|entry| entry as usize);
         let mut rest = &self.output[..octets];
         let mut bundles = Vec::new();
@@ -181,19 +181,22 @@ impl Tally {
         self.inside += u64::from(place != 0);
     }
 
-    fn check_all_reached(&self, draft: Draft) {
+    fn check_all_reached(&self, settings: Settings) {
         println!(
-            "{draft}: {} calls, refused {:?}, noted {:?}, stops: {} full, {} short, {} at a front, {} inside",
+            "{settings}: {} calls, refused {:?}, noted {:?}, stops: {} full, {} short, {} at a front, {} inside",
             self.calls, self.refused, self.noted, self.full, self.short, self.at_front, self.inside
         );
         for number in [0, 1, 2, 3, 19, 9] {
-            assert!(self.refused[number] >= FLOOR, "{draft}: refusal {number}");
+            assert!(
+                self.refused[number] >= FLOOR,
+                "{settings}: refusal {number}"
+            );
         }
         for number in [3, 4, 6, 8] {
-            assert!(self.noted[number] >= FLOOR, "{draft}: noted {number}");
+            assert!(self.noted[number] >= FLOOR, "{settings}: noted {number}");
         }
         assert_eq!(self.noted[5], 0);
-        match draft {
+        match settings.draft {
             Draft::D00 => assert_eq!(self.noted[7], 0),
             Draft::D02 => assert!(self.noted[7] >= FLOOR, "noted 7"),
         }
@@ -209,7 +212,8 @@ fn dense_frame(random: &mut Random, length: usize) -> Vec<u8> {
     message.repeat(MAX_FRAME / message.len())
 }
 
-fn any_frame(random: &mut Random, draft: Draft, greatest: Option<u32>) -> Vec<u8> {
+fn any_frame(random: &mut Random, settings: Settings, greatest: Option<u32>) -> Vec<u8> {
+    let Settings { draft, window } = settings;
     match random.below(16) {
         0 => generate::random_frame(random),
         1 => vec![random.pick(&[0, 2]); random.pick(&[0, 1, 2048, 2049])],
@@ -218,26 +222,29 @@ fn any_frame(random: &mut Random, draft: Draft, greatest: Option<u32>) -> Vec<u8
             dense_frame(random, length)
         }
         5..=6 => {
-            let mut frame = generate::hostile_frame(random, draft, greatest);
+            let mut frame = generate::hostile_frame(random, settings, greatest);
             generate::damage_frame(random, draft, &mut frame);
             frame
         }
-        7 => generate::hostile_frame(random, draft.other(), greatest),
-        _ => generate::hostile_frame(random, draft, greatest),
+        7 => {
+            let other = Settings::new(draft.other(), window);
+            generate::hostile_frame(random, other, greatest)
+        }
+        _ => generate::hostile_frame(random, settings, greatest),
     }
 }
 
-/// Up to 66 frames, most of them of this draft.
-fn any_frames(random: &mut Random, draft: Draft, greatest: Option<u32>) -> Vec<Vec<u8>> {
+/// Up to 66 frames, most of them for boards of these settings.
+fn any_frames(random: &mut Random, settings: Settings, greatest: Option<u32>) -> Vec<Vec<u8>> {
     if random.once_in(3) {
-        let mut frames = generate::recorded_frames(random, draft);
+        let mut frames = generate::recorded_frames(random, settings);
         frames.truncate(BURST_FRAMES + 2);
         return frames;
     }
     let most = random.pick(&[0, 3, 10, 66]);
     let few = random.below(most + 1);
     let count = random.pick(&[64, 65, few, few, few]);
-    let frames = (0..count).map(|_| any_frame(random, draft, greatest));
+    let frames = (0..count).map(|_| any_frame(random, settings, greatest));
     let mut frames: Vec<_> = frames.collect();
     if count > 0 && random.once_in(12) {
         let longest = vec![2; usize::from(u16::MAX)];
@@ -268,18 +275,22 @@ fn any_start(random: &mut Random, draft: Draft, frames: &[Vec<u8>]) -> (u64, u64
     (frame as u64, place)
 }
 
-fn any_memory(random: &mut Random, draft: Draft) -> Memory {
+fn any_memory(random: &mut Random, settings: Settings) -> Memory {
     let image = match random.below(12) {
         0 => {
             let damage = random.below(RECEIVER_DAMAGE.len());
-            generate::unsound_receiver(random, draft, damage)
+            generate::unsound_receiver(random, settings, damage)
         }
-        1..=5 => generate::sound_receiver(random, draft),
-        _ => generate::fresh_receiver(draft),
+        1..=5 => generate::sound_receiver(random, settings),
+        _ => generate::fresh_receiver(settings),
     };
+    let right = settings.window.pool();
+    let others = Window::ALL.map(Window::pool);
+    let others = others.into_iter().filter(|&pool| pool != right);
     let pool = match random.below(16) {
-        0 => random.pick(&[0, 1, POOL - 1, POOL + 1]),
-        _ => POOL,
+        0 => random.pick(&[0, 1, right - 1, right + 1]),
+        1 => random.pick(&others.collect::<Vec<_>>()),
+        _ => right,
     };
     let outputs = [4096, 4096, 4097, 8192, 8192, 12_000, 40_000, 300_000];
     let output = match random.below(16) {
@@ -316,27 +327,27 @@ fn take(tally: &mut Tally, memory: &mut Memory, sizes: &[u16], octets: &[u8], fr
 
 #[test]
 fn random_bursts() {
-    for draft in Draft::BOTH {
+    for settings in Settings::all() {
         let mut tally = Tally::default();
         for round in 0..ROUNDS {
-            random_lists(&mut tally, draft, &mut Random::new(SEED + round));
+            random_lists(&mut tally, settings, &mut Random::new(SEED + round));
         }
-        tally.check_all_reached(draft);
+        tally.check_all_reached(settings);
     }
 }
 
-fn random_lists(tally: &mut Tally, draft: Draft, random: &mut Random) {
-    let mut memory = any_memory(random, draft);
+fn random_lists(tally: &mut Tally, settings: Settings, random: &mut Random) {
+    let mut memory = any_memory(random, settings);
     for _ in 0..random.within(1, 3) {
         let greatest = Some(u32::from_be_bytes(
             [0, 1, 2, 3].map(|at| memory.image[4 + at]),
         ));
-        let frames = any_frames(random, draft, greatest);
+        let frames = any_frames(random, settings, greatest);
         let (sizes, mut octets) = generate::joined(&frames);
         if random.once_in(16) {
             spoil_sum(random, &mut octets);
         }
-        let from = any_start(random, draft, &frames);
+        let from = any_start(random, settings.draft, &frames);
         take(tally, &mut memory, &sizes, &octets, from);
     }
 }
@@ -389,7 +400,7 @@ fn by_bursts(
 /// 02 alone.
 fn natural(start: &Memory) -> Option<natural::Receiver> {
     let state = State::decode(&start.image).expect("a sound state");
-    let known = state.draft == Draft::D02;
+    let known = state.settings.draft == Draft::D02;
     known.then(|| natural::Receiver::restored(&state, &start.pool))
 }
 
@@ -458,26 +469,26 @@ fn check_outcomes(start: &Memory, frames: &[Vec<u8>], from: (u64, u64)) -> Outco
 /// Any frames, and in draft 02 the same with other reserved bits.
 #[test]
 fn the_same_as_single_calls() {
-    for draft in Draft::BOTH {
+    for settings in Settings::all() {
         let mut bundles = 0;
-        for round in 0..ROUNDS / 8 {
+        for round in 0..ROUNDS / 16 {
             let random = &mut Random::new(SEED + round);
             let image = match random.once_in(2) {
-                true => generate::sound_receiver(random, draft),
-                false => generate::fresh_receiver(draft),
+                true => generate::sound_receiver(random, settings),
+                false => generate::fresh_receiver(settings),
             };
             let output = random.pick(&[4096, 4097, 8192, 300_000]);
-            let start = Memory::new(random, image, POOL, output);
-            let mut frames = any_frames(random, draft, Some(round as u32));
+            let start = Memory::new(random, image, settings.window.pool(), output);
+            let mut frames = any_frames(random, settings, Some(round as u32));
             frames.truncate(BURST_FRAMES);
             let expected = check_outcomes(&start, &frames, (0, 0));
             bundles += expected.bundles.len();
-            if draft == Draft::D02 {
+            if settings.draft == Draft::D02 {
                 check_reserved_bits(random, &start, &frames, &expected);
             }
         }
-        println!("{draft}: {bundles} bundles");
-        assert!(bundles > 50_000);
+        println!("{settings}: {bundles} bundles");
+        assert!(bundles > 20_000);
     }
 }
 
@@ -502,12 +513,12 @@ fn every_start() {
     let mut tally = Tally::default();
     let mut starts = 0;
     for round in 0..ROUNDS / 5 {
-        let random = &mut Random::new(SEED + round / 2);
-        let draft = Draft::BOTH[round as usize % 2];
-        let frames = generate::small_frames(random, draft);
+        let random = &mut Random::new(SEED + round / 6);
+        let settings = Settings::all().nth(round as usize % 6).expect("six");
+        let frames = generate::small_frames(random, settings);
         let (sizes, octets) = generate::joined(&frames);
-        let image = generate::sound_receiver(random, draft);
-        let start = Memory::new(random, image, POOL, 4096);
+        let image = generate::sound_receiver(random, settings);
+        let start = Memory::new(random, image, settings.window.pool(), 4096);
         for first in 0..frames.len() + 2 {
             let length = frames.get(first).map_or(0, Vec::len);
             for place in 0..length as u64 + 3 {
@@ -628,17 +639,19 @@ fn starts() -> Vec<Edge> {
 #[test]
 fn edges() {
     let random = &mut Random::new(SEED);
-    for draft in Draft::BOTH {
+    for settings in Settings::all() {
         for edge in [stops(), starts()].concat() {
-            check_edge(random, draft, edge);
+            check_edge(random, settings, edge);
         }
     }
 }
 
-/// The frames of these lists have no flags and no pieces, and so are the same in both drafts.
-fn check_edge(random: &mut Random, draft: Draft, (name, frames, from, output, expected): Edge) {
+/// The frames of these lists have no flags and no pieces, and so are the same in both drafts and in every
+/// window.
+fn check_edge(random: &mut Random, settings: Settings, edge: Edge) {
+    let (name, frames, from, output, expected) = edge;
     let (sizes, octets) = generate::joined(&frames);
-    let mut memory = Memory::fresh(random, draft, output);
+    let mut memory = Memory::fresh(random, settings, output);
     let call = Call {
         sizes: &sizes,
         octets: &octets,
@@ -654,7 +667,7 @@ fn check_edge(random: &mut Random, draft: Draft, (name, frames, from, output, ex
         assert_eq!(found(returned, &other), expected, "natural: {name}");
     }
     let returned = Tally::default().call(&mut memory, &call);
-    assert_eq!(found(returned, &memory), expected, "{draft}: {name}");
+    assert_eq!(found(returned, &memory), expected, "{settings}: {name}");
 }
 
 /// Every way of being wrong in some of five ways: the first one is refused.
@@ -662,31 +675,50 @@ fn check_edge(random: &mut Random, draft: Draft, (name, frames, from, output, ex
 fn refusals_in_order() {
     let random = &mut Random::new(SEED);
     let mut tally = Tally::default();
-    for wrong in 0..64u32 {
-        let draft = Draft::BOTH[wrong as usize >> 5];
-        let is_wrong = |way: u32| wrong >> way & 1 == 1;
-        for (pool, output) in [(POOL, 4095), (POOL - 1, 4096), (POOL + 1, 4096), (0, 0)] {
-            let (pool, output) = if is_wrong(1) {
-                (pool, output)
-            } else {
-                (POOL, 4096)
+    for settings in Settings::all() {
+        for wrong in 0..32 {
+            check_order(random, &mut tally, settings, wrong);
+        }
+    }
+    println!("refused {:?}", tally.refused);
+    for (number, least) in [(1, 1_000), (2, 500), (3, 200), (19, 100), (9, 50)] {
+        assert!(tally.refused[number] >= least, "refusal {number}");
+    }
+}
+
+fn check_order(random: &mut Random, tally: &mut Tally, settings: Settings, wrong: u32) {
+    let is_wrong = |way: u32| wrong >> way & 1 == 1;
+    let right = settings.window.pool();
+    let mut lent = vec![(right, 4095), (right - 1, 4096), (right + 1, 4096), (0, 0)];
+    let others = Window::ALL.map(Window::pool);
+    lent.extend(
+        others
+            .into_iter()
+            .filter(|&pool| pool != right)
+            .map(|pool| (pool, 4096)),
+    );
+    for (pool, output) in lent {
+        let (pool, output) = if is_wrong(1) {
+            (pool, output)
+        } else {
+            (right, 4096)
+        };
+        let image = generate::fresh_receiver(settings);
+        let mut memory = Memory::new(random, image, pool, output);
+        memory.image[0] = if is_wrong(0) { 2 } else { 0 };
+        let frames = vec![bundles(1, 2); if is_wrong(2) { 65 } else { 64 }];
+        let (sizes, mut octets) = generate::joined(&frames);
+        octets.truncate(octets.len() - usize::from(is_wrong(3)));
+        for from in [(0, 1), (64, 1), (65, 1), (66, 0)] {
+            let call = Call {
+                sizes: &sizes,
+                octets: &octets,
+                from: if is_wrong(4) { from } else { (0, 0) },
             };
-            let mut memory = Memory::new(random, generate::fresh_receiver(draft), pool, output);
-            memory.image[0] = if is_wrong(0) { 2 } else { 0 };
-            let frames = vec![bundles(1, 2); if is_wrong(2) { 65 } else { 64 }];
-            let (sizes, mut octets) = generate::joined(&frames);
-            octets.truncate(octets.len() - usize::from(is_wrong(3)));
-            for from in [(0, 1), (64, 1), (65, 1), (66, 0)] {
-                let call = Call {
-                    sizes: &sizes,
-                    octets: &octets,
-                    from: if is_wrong(4) { from } else { (0, 0) },
-                };
-                let returned = tally.call(&mut memory.clone(), &call);
-                let first = (0..5).find(|&way| is_wrong(way));
-                let expected = first.map_or(0, |way| [1, 2, 3, 19, 9][way as usize]);
-                assert_eq!(returned, expected, "{wrong:b}, {from:?}");
-            }
+            let returned = tally.call(&mut memory.clone(), &call);
+            let first = (0..5).find(|&way| is_wrong(way));
+            let expected = first.map_or(0, |way| [1, 2, 3, 19, 9][way as usize]);
+            assert_eq!(returned, expected, "{settings}: {wrong:b}, {from:?}");
         }
     }
 }

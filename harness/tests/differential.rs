@@ -66,14 +66,14 @@ fn check_all_reached(coverage: &Coverage) {
     for number in [5].into_iter().chain(NEVER_GIVEN_00) {
         assert_eq!(old.refusals[number] + old.noted[number], 0, "draft 00");
     }
-    assert!(coverage.receiving_calls >= 120_000);
-    assert!(coverage.sending_calls >= 60_000);
+    assert!(coverage.receiving_calls >= 400_000);
+    assert!(coverage.sending_calls >= 100_000);
     assert!(coverage.recording_calls >= 40_000);
-    assert!(coverage.burst_calls >= 4_000);
-    assert!(coverage.checks >= 150_000);
-    assert!(coverage.calls() >= 390_000);
+    assert!(coverage.burst_calls >= 25_000);
+    assert!(coverage.checks >= 500_000);
+    assert!(coverage.calls() >= 1_200_000);
     for draft in Draft::BOTH {
-        assert!(coverage.of(draft).calls() >= 200_000, "{draft}");
+        assert!(coverage.of(draft).calls() >= 500_000, "{draft}");
     }
     assert_eq!(coverage.refusals.iter().sum::<u64>(), coverage.calls());
 }

@@ -3,104 +3,18 @@
 
 use std::marker::PhantomData;
 
-use btpu::raw::{
-    BURST_BUNDLES, BURST_FRAMES, BURST_RESULT, MIN_OUTPUT, NO_NUMBER, PLAYED_BUNDLES, POOL,
-    RECEIVER_IMAGE, RECORDED_FRAMES, RECORDED_OCTETS, SENDER_IMAGE,
-};
+use btpu::raw::{NO_NUMBER, RECEIVER_IMAGE, SENDER_IMAGE};
+use harness::board::{self, hex, Board, Told};
 use harness::generate;
-use harness::model::Draft;
+use harness::model::{Draft, Settings, Window};
+use harness::on_both_sides;
 use harness::side::{Exported, Model, Side};
-
-fn hex(text: &str) -> Vec<u8> {
-    let digits: Vec<u32> = text
-        .chars()
-        .filter(|character| *character != ' ')
-        .map(|character| character.to_digit(16).expect("a hexadecimal digit"))
-        .collect();
-    let (pairs, rest) = digits.as_chunks::<2>();
-    assert!(rest.is_empty(), "an even number of digits expected");
-    pairs
-        .iter()
-        .map(|[high, low]| (16 * high + low) as u8)
-        .collect()
-}
-
-/// What a receiving call tells.
-#[derive(Clone, Debug, PartialEq, Eq)]
-enum Told {
-    /// A refusal's number, and where the bad message starts.
-    Refused(u32, u32),
-    Finished,
-    /// A bundle, the next place, and the transfer's number or `NO_NUMBER`.
-    Bundle(Vec<u8>, u64, u64),
-}
 
 use Told::{Bundle, Finished, Refused};
 
-struct Board<S> {
-    image: [u8; RECEIVER_IMAGE],
-    pool: Vec<u8>,
-    side: PhantomData<S>,
-}
-
-impl<S: Side> Board<S> {
-    fn start(draft: Draft) -> Board<S> {
-        let mut image = [0xa5; RECEIVER_IMAGE];
-        assert_eq!(S::receiver_start(draft, &mut image), 0, "{}", S::NAME);
-        Board {
-            image,
-            pool: vec![0xa5; POOL],
-            side: PhantomData,
-        }
-    }
-
-    fn receive(&mut self, frame: &[u8], place: u64) -> Told {
-        let mut output = [0xee; MIN_OUTPUT];
-        let mut result = [77; 4];
-        let (image, pool) = (&mut self.image, &mut self.pool);
-        let returned = S::receive(image, pool, frame, place, &mut output, &mut result);
-        if returned != 0 {
-            return Refused(returned & 0xff, returned >> 8);
-        }
-        match result {
-            [0, 77, 77, 77] => Finished,
-            [1, length, next, number] => Bundle(output[..length as usize].to_vec(), next, number),
-            _ => panic!("{}: no such answer: {result:?}", S::NAME),
-        }
-    }
-
-    /// Takes a frame to its end; the answer is its bundles.
-    fn take(&mut self, frame: &[u8]) -> Vec<Vec<u8>> {
-        let mut bundles = Vec::new();
-        let mut place = 0;
-        loop {
-            match self.receive(frame, place) {
-                Finished => return bundles,
-                Bundle(bundle, next, _) => {
-                    bundles.push(bundle);
-                    place = next;
-                }
-                Refused(number, at) => panic!("{}: refused with {number} at {at}", S::NAME),
-            }
-        }
-    }
-
-    /// The first octets of a row: phase, whether the final index is known, the final index, pieces held.
-    fn row(&self, row: usize) -> [u8; 4] {
-        let octets = generate::row(&self.image, row);
-        *octets.first_chunk().expect("four octets")
-    }
-}
-
-/// Runs a test on both sides.
-macro_rules! on_both_sides {
-    ($name:ident, $body:ident) => {
-        #[test]
-        fn $name() {
-            $body::<Model>();
-            $body::<Exported>();
-        }
-    };
+/// Boards of a draft, of one window where it does not matter; tests/windows.rs has the others.
+fn fresh<S: Side>(draft: Draft) -> Board<S> {
+    Board::start(Settings::new(draft, Window::Eight))
 }
 
 /// One frame for a fresh board of draft 00, and what the call from its front tells.
@@ -143,10 +57,10 @@ fn messages() -> Vec<(&'static str, &'static str, Told)> {
 
 fn reads_messages<S: Side>() {
     for (name, frame, told) in messages() {
-        let mut board = Board::<S>::start(Draft::D00);
+        let mut board = fresh::<S>(Draft::D00);
         assert_eq!(board.receive(&hex(frame), 0), told, "{}: {name}", S::NAME);
         if let Refused(..) = told {
-            let fresh = Board::<S>::start(Draft::D00);
+            let fresh = fresh::<S>(Draft::D00);
             assert!(board.image == fresh.image, "{}: {name}", S::NAME);
         }
     }
@@ -158,11 +72,11 @@ fn reads_places<S: Side>() {
     let frame = hex("00 00 02 00 00 01 41 03 00 00 09 00000005 00000000 42");
     let good = [0, 2, 7, 20];
     for place in 0..23 {
-        let told = Board::<S>::start(Draft::D00).receive(&frame, place);
+        let told = fresh::<S>(Draft::D00).receive(&frame, place);
         let bad = told == Refused(9, 0);
         assert_eq!(bad, !good.contains(&place), "{}: {place}", S::NAME);
     }
-    let mut board = Board::<S>::start(Draft::D00);
+    let mut board = fresh::<S>(Draft::D00);
     assert_eq!(board.take(&frame), [b"A", b"B"], "{}", S::NAME);
 }
 
@@ -226,21 +140,21 @@ fn transfers() -> Vec<Transfer> {
 fn joins_pieces<S: Side>() {
     for (name, frames, bundle, phase) in transfers() {
         let frames: Vec<Vec<u8>> = frames.into_iter().map(hex).collect();
-        let mut board = Board::<S>::start(Draft::D00);
+        let mut board = fresh::<S>(Draft::D00);
         let told = frames.iter().map(|frame| board.receive(frame, 0));
         let told = told.last().expect("one frame at least");
         let length = frames.last().map_or(0, Vec::len) as u64;
         let expected = bundle.map_or(Finished, |bundle| Bundle(bundle.to_vec(), length, 5));
         assert_eq!(told, expected, "{}: {name}", S::NAME);
         assert_eq!(board.row(5)[0], phase, "{}: {name}", S::NAME);
-        assert_eq!(board.image[..8], [1, 0, 1, 0, 0, 0, 0, 5], "{}", S::NAME);
+        assert_eq!(board.image[..8], [1, 8, 1, 0, 0, 0, 0, 5], "{}", S::NAME);
     }
 }
 
 on_both_sides!(pieces_of_a_transfer, joins_pieces);
 
 fn holds_pieces<S: Side>() {
-    let mut board = Board::<S>::start(Draft::D00);
+    let mut board = fresh::<S>(Draft::D00);
     assert_eq!(board.receive(&hex(SECOND), 0), Finished);
     assert_eq!(board.row(5), [1, 0, 0, 1], "{}", S::NAME);
     assert_eq!(board.receive(&hex(START), 0), Finished);
@@ -260,7 +174,7 @@ on_both_sides!(pieces_held_in_order_of_arrival, holds_pieces);
 fn joins_64_pieces<S: Side>() {
     let falling: Vec<u8> = (0..64).rev().collect();
     for step in [1, 5, 27, 63] {
-        let mut board = Board::<S>::start(Draft::D00);
+        let mut board = fresh::<S>(Draft::D00);
         let mut bundles = Vec::new();
         for at in 0..64u32 {
             let index = at * step % 64;
@@ -280,29 +194,10 @@ on_both_sides!(joined_from_64_pieces, joins_64_pieces);
 /// 02 the second is not.
 fn takes_bursts<S: Side>() {
     let frames = [SECOND, "02 10 00 00", LAST, "02 80 00 01 02", START];
-    let (sizes, octets) = generate::joined(&frames.map(hex));
-    let mut board = Board::<S>::start(Draft::D00);
-    let mut output = [0xee; MIN_OUTPUT];
-    let (mut lengths, mut numbers) = ([77; BURST_BUNDLES], [77; BURST_BUNDLES]);
-    let (mut places, mut reasons) = ([77; BURST_FRAMES], [77; BURST_FRAMES]);
-    let mut result = [77; BURST_RESULT];
-    let returned = S::receive_burst(
-        &mut board.image,
-        &mut board.pool,
-        (&sizes, &octets),
-        (0, 0),
-        (&mut output, &mut lengths, &mut numbers),
-        (&mut places, &mut reasons),
-        &mut result,
-    );
-    assert_eq!((returned, result), (0, [1, 5, 5, 0, 2]), "{}", S::NAME);
-    assert_eq!(output[..6], *b"ABCDE\xee", "{}", S::NAME);
-    assert_eq!((lengths[0], numbers[0]), (5, 5), "{}", S::NAME);
-    assert_eq!((lengths[1], numbers[1]), (77, 77), "{}", S::NAME);
-    assert_eq!(
-        (&places[..3], &reasons[..3]),
-        (&[1, 3, 77][..], &[6, 6, 77][..])
-    );
+    let mut board = fresh::<S>(Draft::D00);
+    let taken = board.receive_burst(&frames.map(hex));
+    let expected = (vec![(5, b"ABCDE".to_vec())], vec![(1, 6), (3, 6)]);
+    assert_eq!(taken, Ok(expected), "{}", S::NAME);
     assert_eq!(board.row(5)[0], DONE, "{}", S::NAME);
 }
 
@@ -317,12 +212,12 @@ fn reads_by_its_draft<S: Side>() {
         (Draft::D00, &start, &segment),
         (Draft::D02, &segment, &start),
     ] {
-        let mut board = Board::<S>::start(draft);
+        let mut board = fresh::<S>(draft);
         assert_eq!(board.take(completing), [b"A"], "{}: {draft}", S::NAME);
-        let mut board = Board::<S>::start(draft);
+        let mut board = fresh::<S>(draft);
         assert_eq!(board.take(other), none, "{}: {draft}", S::NAME);
     }
-    let mut board = Board::<S>::start(Draft::D02);
+    let mut board = fresh::<S>(Draft::D02);
     let told = board.receive(&hex("02 80 00 05 02 01 ff 41 42"), 0);
     assert_eq!(told, Bundle(b"AB".to_vec(), 9, NO_NUMBER), "{}", S::NAME);
     assert_eq!(board.receive(&hex("02 80 00 01 02"), 0), Refused(7, 0));
@@ -332,8 +227,9 @@ on_both_sides!(the_draft_of_the_board_decides, reads_by_its_draft);
 
 fn checks_receivers<S: Side>() {
     for draft in Draft::BOTH {
-        let image = Board::<S>::start(draft).image;
+        let image = fresh::<S>(draft).image;
         let mut expected = [0; RECEIVER_IMAGE];
+        expected[1] = 8;
         expected[2] = if draft == Draft::D00 { 1 } else { 0 };
         assert!(image == expected, "{}: {draft}", S::NAME);
         for (at, octet, returned) in [
@@ -341,7 +237,6 @@ fn checks_receivers<S: Side>() {
             (2, 1, 0),
             (2, 2, 1),
             (2, 255, 1),
-            (1, 1, 1),
             (3, 1, 1),
             (0, 1, 0),
         ] {
@@ -648,19 +543,23 @@ fn send<S: Side>(draft: Draft, size: usize, lengths: &[usize]) -> Sent {
     Sent { frames, bundles }
 }
 
-/// What one side sends arrives on the other: in order, in reverse order, and with every frame twice.
+/// What one side sends arrives on the other, whatever the board's window: in order, in reverse order, and
+/// with every frame twice. So few of the bundles go in pieces that none is outside in reverse order either.
 fn end_to_end<From: Side, To: Side>() {
-    let lengths = [300, 44, 45, 1, 125, 124, 4096, 2036, 60, 8, 117, 500];
-    for draft in Draft::BOTH {
+    for settings in Settings::all() {
+        let lengths: &[usize] = match settings.window {
+            Window::Four => &[44, 1, 4096, 2050, 60, 8, 2100],
+            _ => &[300, 44, 45, 1, 125, 124, 4096, 2036, 60, 8, 117, 500],
+        };
         for size in [128, 129, 256, 1024, 2048] {
-            let sent = send::<From>(draft, size, &lengths);
-            let name = format!("{} to {}: {draft}, {size}", From::NAME, To::NAME);
-            let mut board = Board::<To>::start(draft);
+            let sent = send::<From>(settings.draft, size, lengths);
+            let name = format!("{} to {}: {settings}, {size}", From::NAME, To::NAME);
+            let mut board = Board::<To>::start(settings);
             let frames = sent.frames.iter();
             let found: Vec<_> = frames.flat_map(|frame| board.take(frame)).collect();
             assert!(found == sent.bundles, "{name}");
 
-            let mut board = Board::<To>::start(draft);
+            let mut board = Board::<To>::start(settings);
             let frames = sent.frames.iter().rev();
             let mut found: Vec<_> = frames.flat_map(|frame| board.take(frame)).collect();
             let mut expected = sent.bundles.clone();
@@ -699,27 +598,8 @@ fn both_sides_send_the_same() {
     assert_eq!((kinds(&old), kinds(&new)), (vec![3, 4, 4], vec![3, 3, 4]));
 }
 
-/// Messages treated, bundles, and refused frames of a playback.
-fn play<S: Side>(frames: &[Vec<u8>]) -> (u64, Vec<Vec<u8>>, Vec<(u32, u32)>) {
-    let mut pool = vec![0; POOL];
-    let (mut output, mut lengths) = ([0; RECORDED_OCTETS], [0; PLAYED_BUNDLES]);
-    let (mut places, mut reasons) = ([0; RECORDED_FRAMES], [0; RECORDED_FRAMES]);
-    let mut result = [0; 4];
-    let recording = generate::recorded(frames);
-    let bundles: (&mut [u8], &mut [u16]) = (&mut output, &mut lengths);
-    let notes: (&mut [u32], &mut [u32]) = (&mut places, &mut reasons);
-    let returned = S::play(&recording, u64::MAX, &mut pool, bundles, notes, &mut result);
-    assert_eq!(returned, 0, "{}", S::NAME);
-    let [messages, count, _, refused] = result;
-    let mut rest = &output[..];
-    let cut = |&length: &u16| {
-        let (bundle, behind) = rest.split_at(length.into());
-        rest = behind;
-        bundle.to_vec()
-    };
-    let bundles = lengths[..count as usize].iter().map(cut).collect();
-    let notes = places.into_iter().zip(reasons).take(refused as usize);
-    (messages, bundles, notes.collect())
+fn play<S: Side>(frames: &[Vec<u8>]) -> board::Played {
+    board::play::<S>(frames, 65_536).expect("a good recording")
 }
 
 /// A playback is one of draft 02, whatever the frames were meant for.
@@ -742,7 +622,7 @@ fn plays_draft_02<S: Side>() {
     let expected = vec![sent.bundles[1].clone()];
     let played = play::<S>(&sent.frames);
     assert_eq!((&played.1, &played.2), (&expected, &vec![]), "{}", S::NAME);
-    let mut board = Board::<S>::start(Draft::D02);
+    let mut board = fresh::<S>(Draft::D02);
     let frames = sent.frames.iter();
     let singly: Vec<_> = frames.flat_map(|frame| board.take(frame)).collect();
     assert_eq!(singly, expected, "{}", S::NAME);

@@ -1,7 +1,10 @@
 //! Recordings by hand-made examples, on both sides.
 
-use btpu::raw::{PLAYED_BUNDLES, POOL, RECORDED_FRAMES, RECORDED_OCTETS};
+use btpu::raw::{PLAYED_BUNDLES, RECORDED_FRAMES, RECORDED_OCTETS};
 use harness::side::{Exported, Model, Side};
+
+/// Octets of a playback's pool.
+const POOL: usize = 65_536;
 
 /// The sizes, the count of octets and where they start, or the refusal.
 type Opened = Result<(Vec<u16>, u64, u64), u32>;
@@ -183,10 +186,13 @@ fn play_refuses<S: Side>() {
         lent[part] -= 1;
         lent
     };
+    let with_pool = |pool| [pool, enough[1], enough[2], 1024, 1024];
     let cases = [
         (16, &nothing[..7], [0; 5], "before 2 and 24"),
         (20, &[0; 9][..], [0; 5], "before 2 and 24"),
         (2, nothing, short(0), "a pool of 65,535"),
+        (2, nothing, with_pool(32_768), "window 8's pool"),
+        (2, nothing, with_pool(16_384), "window 4's pool"),
         (
             2,
             nothing,

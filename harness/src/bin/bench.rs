@@ -1,24 +1,26 @@
 //! Time per call of the exported interface, of the model and of the baselines, on the same input.
 //!
-//!     bench [ROUNDS]
+//!     bench [ROUNDS [WINDOW]]
 //!
-//! Each round times the sides one after the other, in changing order; the tables give the median
+//! Boards have the window that is given, or 16; a playback has always 16. Each round times the sides one after the other, in changing order; the tables give the median
 //! time per call, and the median over the rounds of the ratios within a round.
 
 use std::hint::black_box;
+use std::process::ExitCode;
 use std::time::Instant;
 
 use btpu::raw::{
     self, BurstBundles, BurstNotes, BURST_BUNDLES, BURST_FRAMES, BURST_RESULT, MIN_OUTPUT,
-    PLAYED_BUNDLES, POOL, RECEIVER_IMAGE, RECORDED_FRAMES, RECORDED_OCTETS, SENDER_IMAGE,
+    PLAYED_BUNDLES, RECEIVER_IMAGE, RECORDED_FRAMES, RECORDED_OCTETS, SENDER_IMAGE,
 };
 use harness::baseline::{inplace, natural};
+use harness::compare::PLAY_POOL;
 use harness::generate::{self, Piece, BUNDLE};
-use harness::model::{interface, receiver, sender, Draft};
+use harness::model::{interface, receiver, sender, Draft, Settings, Window};
 use harness::random::Random;
 use harness::side::{Exported, Model, Side as _};
 
-const ROUNDS: usize = 31;
+const ROUNDS: u32 = 31;
 const ROUND_SECONDS: f64 = 0.004;
 const FRAME: usize = 2048;
 
@@ -49,7 +51,7 @@ type Side<'a> = Box<dyn FnMut() -> Work + 'a>;
 /// A workload of three sides: exported, the model on its own state, the model behind an image; and of the
 /// baselines, for receiving calls of draft 02.
 struct Workload<'a> {
-    name: &'static str,
+    name: String,
     exported: Side<'a>,
     own_state: Side<'a>,
     image: Side<'a>,
@@ -65,7 +67,7 @@ struct Baselines<'a> {
 /// A workload of bursts. Single calls and bursts of the exported interface, the model behind an image, and
 /// single calls and bursts of the natural receiver; all times are those per message.
 struct BurstWorkload<'a> {
-    name: &'static str,
+    name: String,
     burst: Side<'a>,
     single: Side<'a>,
     model: Side<'a>,
@@ -80,61 +82,27 @@ struct RecordingWorkload<'a> {
     model: Side<'a>,
 }
 
-fn main() {
-    let rounds = std::env::args()
-        .nth(1)
-        .map_or(ROUNDS, |rounds| rounds.parse().expect("number of rounds"));
+fn main() -> ExitCode {
+    let arguments: Vec<String> = std::env::args().skip(1).collect();
+    let number = |place: usize, default| match arguments.get(place) {
+        Some(given) => given.parse().ok(),
+        None => Some(default),
+    };
+    let window = number(1, Window::Sixteen.number()).and_then(Window::of_number);
+    let (Some(rounds @ 1..), Some(window), 0..=2) = (number(0, ROUNDS), window, arguments.len())
+    else {
+        eprintln!("bench [ROUNDS [WINDOW]]: a number of rounds, and a window of 4, 8 or 16");
+        return ExitCode::FAILURE;
+    };
+    measure_all(rounds as usize, window);
+    ExitCode::SUCCESS
+}
+
+fn measure_all(rounds: usize, window: Window) {
     let mut random = Random::new(1);
-    let full = full_image(&mut random);
-    let small_bundles = Reception::of(small_bundle_frames(&mut random, 4 * 170));
-    let small_pieces = Reception::of(small_piece_frames(&mut random, Draft::D02, 8));
-    let large_pieces = Reception::of(large_piece_frames(&mut random));
-    let passed = Reception::of(passed_frames(&mut random));
-    let hints = Reception::of(hint_frames(&mut random));
-    let octet = Reception::of(vec![vec![0]; 32]);
-    let full_octet = Reception {
-        image: full,
-        ..Reception::of(vec![vec![0]; 32])
-    };
-    let idle = Reception {
-        image: done_image(),
-        ..Reception::of(vec![vec![0]; 32])
-    };
-    let rising = join(&mut random, (0..64).collect());
-    let falling = join(&mut random, (0..64).rev().collect());
-    let mut shuffled: Vec<u32> = (0..64).collect();
-    random.shuffle(&mut shuffled);
-    let shuffled = join(&mut random, shuffled);
-    let large = bundles(&mut random, 16, 4096);
-    let small = bundles(&mut random, 512, 60);
-    let tiny = bundles(&mut random, 1024, 8);
-    let draft = Draft::D02;
-    let workloads = [
-        receiving("receive: bundles of 8 octets", &small_bundles),
-        receiving(
-            "receive: pieces of 4 octets, 8 transfers mixed",
-            &small_pieces,
-        ),
-        receiving("receive: pieces of 2,036 octets", &large_pieces),
-        receiving("receive: paddings and unknown types", &passed),
-        receiving("receive: chains of hints", &hints),
-        receiving("receive: one zero octet, all rows Free", &octet),
-        receiving(
-            "receive: one zero octet, all rows with 63 pieces",
-            &full_octet,
-        ),
-        receiving("idle call: one zero octet, all rows Done", &idle),
-        receiving("join: 64 pieces of 64 octets, in order", &rising),
-        receiving("join: 64 pieces of 64 octets, in falling order", &falling),
-        receiving("join: 64 pieces of 64 octets, in random order", &shuffled),
-        sending("place: 4,096 octets, frames of 2,048", draft, 2048, &large),
-        sending("place: 4,096 octets, frames of 512", draft, 512, &large),
-        sending("place: 60 octets, frames of 2,048", draft, 2048, &small),
-        sending("place: 8 octets, frames of 128", draft, 128, &tiny),
-    ];
     println!(
-        "{rounds} rounds; exported interface against the model in Rust (\"Rust\"), a receiver in place \
-         on the image, and a natural one on its own state"
+        "{rounds} rounds, {window}; exported interface against the model in Rust (\"Rust\"), a receiver \
+         in place on the image, and a natural one on its own state"
     );
     println!();
     println!(
@@ -143,23 +111,79 @@ fn main() {
          | ratio to in place | ratio to natural |"
     );
     println!("|---|---:|---:|---:|---:|---:|---:|---:|---:|---:|---:|");
-    for workload in workloads {
-        measure(workload, rounds);
-    }
-    measure_draft_00(rounds);
-    measure_bursts(&mut random, rounds);
+    measure_receiving(&mut random, window, rounds);
+    measure_sending(&mut random, rounds);
+    measure_draft_00(window, rounds);
+    measure_bursts(&mut random, window, rounds);
     measure_recordings(&mut random, rounds);
 }
 
+fn measure_receiving(random: &mut Random, window: Window, rounds: usize) {
+    let settings = Settings::new(Draft::D02, window);
+    let of = |frames| Reception::of(settings, frames);
+    let octets = |image| Reception {
+        image,
+        ..of(vec![vec![0]; 32])
+    };
+    let full = full_image(random, settings);
+    let small_bundles = of(small_bundle_frames(random, 4 * 170));
+    let small_pieces = of(small_piece_frames(random, settings, 64));
+    let large_pieces = of(large_piece_frames(random));
+    let passed = of(passed_frames(random));
+    let hints = of(hint_frames(random, window));
+    let free = of(vec![vec![0]; 32]);
+    let (full, done) = (octets(full), octets(done_image(settings)));
+    let rising = join(random, settings, (0..64).collect());
+    let falling = join(random, settings, (0..64).rev().collect());
+    let mut shuffled: Vec<u32> = (0..64).collect();
+    random.shuffle(&mut shuffled);
+    let shuffled = join(random, settings, shuffled);
+    let pieces = format!("pieces of 4 octets, {} transfers mixed", together(window));
+    let workloads = [
+        ("receive: bundles of 8 octets", &small_bundles),
+        (&format!("receive: {pieces}"), &small_pieces),
+        ("receive: pieces of 2,036 octets", &large_pieces),
+        ("receive: paddings and unknown types", &passed),
+        ("receive: chains of hints", &hints),
+        ("receive: one zero octet, all rows Free", &free),
+        ("receive: one zero octet, all rows with 63 pieces", &full),
+        ("idle call: one zero octet, all rows Done", &done),
+        ("join: 64 pieces of 64 octets, in order", &rising),
+        ("join: 64 pieces of 64 octets, in falling order", &falling),
+        ("join: 64 pieces of 64 octets, in random order", &shuffled),
+    ];
+    for (name, reception) in workloads {
+        measure(receiving(name, reception), rounds);
+    }
+}
+
+fn measure_sending(random: &mut Random, rounds: usize) {
+    let draft = Draft::D02;
+    let large = bundles(random, 16, 4096);
+    let small = bundles(random, 512, 60);
+    let tiny = bundles(random, 1024, 8);
+    let workloads = [
+        ("place: 4,096 octets, frames of 2,048", 2048, &large),
+        ("place: 4,096 octets, frames of 512", 512, &large),
+        ("place: 60 octets, frames of 2,048", 2048, &small),
+        ("place: 8 octets, frames of 128", 128, &tiny),
+    ];
+    for (name, frame_size, bundles) in workloads {
+        measure(sending(name, draft, frame_size, bundles), rounds);
+    }
+}
+
 /// More rows: workloads of the table again, in draft 00.
-fn measure_draft_00(rounds: usize) {
+fn measure_draft_00(window: Window, rounds: usize) {
     let draft = Draft::D00;
+    let settings = Settings { draft, window };
     let mut random = Random::new(2);
-    let pieces = Reception::in_draft(draft, small_piece_frames(&mut random, draft, 8));
+    let pieces = Reception::of(settings, small_piece_frames(&mut random, settings, 64));
     let large = bundles(&mut random, 16, 4096);
+    let mixed = format!("{} transfers mixed", together(window));
     let workloads = [
         receiving(
-            "receive, draft 00: pieces of 4 octets, 8 transfers mixed",
+            &format!("receive, draft 00: pieces of 4 octets, {mixed}"),
             &pieces,
         ),
         sending(
@@ -175,10 +199,12 @@ fn measure_draft_00(rounds: usize) {
 }
 
 /// A table of its own: 64 frames in bursts.
-fn measure_bursts(random: &mut Random, rounds: usize) {
-    let bundles = Reception::of(small_bundle_frames(random, BURST_FRAMES * 170));
-    let pieces = Reception::of(small_piece_frames(random, Draft::D02, 17));
-    let large = Reception::of([large_piece_frames(random), large_piece_frames(random)].concat());
+fn measure_bursts(random: &mut Random, window: Window, rounds: usize) {
+    let settings = Settings::new(Draft::D02, window);
+    let of = |frames| Reception::of(settings, frames);
+    let bundles = of(small_bundle_frames(random, BURST_FRAMES * 170));
+    let pieces = of(small_piece_frames(random, settings, 136));
+    let large = of([large_piece_frames(random), large_piece_frames(random)].concat());
     for reception in [&bundles, &pieces, &large] {
         assert_eq!(reception.frames.len(), BURST_FRAMES);
     }
@@ -203,7 +229,7 @@ fn measure_bursts(random: &mut Random, rounds: usize) {
             workload.natural,
             workload.natural_single,
         ];
-        let (messages, times) = timed(name, sides, rounds);
+        let (messages, times) = timed(&name, sides, rounds);
         let [burst, others @ ..] = &times;
         let medians = times.iter().map(|times| median(times.clone()));
         let medians: String = medians.map(|time| format!("| {time:.1} ")).collect();
@@ -243,13 +269,13 @@ fn measure(workload: Workload, rounds: usize) {
     let name = workload.name;
     let sides = [workload.exported, workload.own_state, workload.image];
     let Some(Baselines { inplace, natural }) = workload.baselines else {
-        let (calls, times) = timed(name, sides, rounds);
+        let (calls, times) = timed(&name, sides, rounds);
         println!("| {name} | {calls} {}| | | | |", model_columns(&times));
         return;
     };
     let [exported, own_state, image] = sides;
     let sides = [exported, own_state, image, inplace, natural];
-    let (calls, times) = timed(name, sides, rounds);
+    let (calls, times) = timed(&name, sides, rounds);
     println!(
         "| {name} | {calls} {}{}|",
         model_columns(&times),
@@ -333,17 +359,14 @@ struct Reception {
 }
 
 impl Reception {
-    /// By a fresh board of draft 02, each frame to its end.
-    fn of(frames: Vec<Vec<u8>>) -> Reception {
-        Reception::in_draft(Draft::D02, frames)
-    }
-
-    fn in_draft(draft: Draft, frames: Vec<Vec<u8>>) -> Reception {
+    /// By a fresh board, each frame to its end.
+    fn of(Settings { draft, window }: Settings, frames: Vec<Vec<u8>>) -> Reception {
         let mut image = [0; RECEIVER_IMAGE];
-        assert_eq!(Exported::receiver_start(draft, &mut image), 0);
+        let returned = Exported::receiver_start(draft, window.number(), &mut image);
+        assert_eq!(returned, 0);
         Reception {
             image,
-            pool: vec![0; POOL],
+            pool: vec![0; window.pool()],
             frames,
             to_end: true,
         }
@@ -351,14 +374,14 @@ impl Reception {
 }
 
 /// The one call that completes a transfer, with all other pieces held in this order of arrival.
-fn join(random: &mut Random, order: Vec<u32>) -> Reception {
+fn join(random: &mut Random, settings: Settings, order: Vec<u32>) -> Reception {
     let pieces = order.iter().map(|&index| {
         let piece = Piece::sent(Draft::D02, 7, index as usize, order.len());
         piece.message(Draft::D02, &[], &random.octets(64))
     });
     let mut frames: Vec<Vec<u8>> = pieces.collect();
     let completing = frames.pop().expect("one at least");
-    let mut held = Reception::of(vec![completing]);
+    let mut held = Reception::of(settings, vec![completing]);
     held.to_end = false;
     let mut output = vec![0; MIN_OUTPUT];
     for frame in frames {
@@ -377,10 +400,10 @@ fn join(random: &mut Random, order: Vec<u32>) -> Reception {
 }
 
 /// All rows Open with as many pieces as they can hold while one is missing.
-fn full_image(random: &mut Random) -> [u8; RECEIVER_IMAGE] {
-    let mut state = receiver::State::start(Draft::D02);
+fn full_image(random: &mut Random, settings: Settings) -> [u8; RECEIVER_IMAGE] {
+    let mut state = receiver::State::start(settings);
     state.greatest = Some(100);
-    for row in &mut state.rows {
+    for row in &mut state.rows[..settings.window.rows()] {
         let mut indexes: Vec<u8> = (1..64).collect();
         random.shuffle(&mut indexes);
         row.phase = receiver::Phase::Open;
@@ -396,10 +419,10 @@ fn full_image(random: &mut Random) -> [u8; RECEIVER_IMAGE] {
 }
 
 /// A board that has received, and has nothing under way.
-fn done_image() -> [u8; RECEIVER_IMAGE] {
-    let mut state = receiver::State::start(Draft::D02);
+fn done_image(settings: Settings) -> [u8; RECEIVER_IMAGE] {
+    let mut state = receiver::State::start(settings);
     state.greatest = Some(100);
-    state.rows = [receiver::Row::empty(receiver::Phase::Done); receiver::ROWS];
+    state.rows[..settings.window.rows()].fill(receiver::Row::empty(receiver::Phase::Done));
     assert!(state.is_sound());
     let mut image = [0; RECEIVER_IMAGE];
     state.encode(&mut image);
@@ -419,7 +442,7 @@ fn lent(octets: &[u8], output: usize) -> (&'static mut [u8], &'static mut [u8]) 
     (front, &mut behind[..output])
 }
 
-fn receiving<'a>(name: &'static str, reception: &'a Reception) -> Workload<'a> {
+fn receiving<'a>(name: &str, reception: &'a Reception) -> Workload<'a> {
     type Image = [u8; RECEIVER_IMAGE];
     type Call = fn(&mut Image, &mut [u8], &[u8], u64, &mut [u8], &mut [u64; 4]) -> u32;
     let through_image = move |call: Call| {
@@ -448,7 +471,7 @@ fn receiving<'a>(name: &'static str, reception: &'a Reception) -> Workload<'a> {
         }
     };
     let state = receiver::State::decode(&reception.image).expect("a state");
-    let has_baselines = state.draft == Draft::D02;
+    let has_baselines = state.settings.draft == Draft::D02;
     let (pool, output) = lent(&reception.pool, MIN_OUTPUT);
     let own_state = move || {
         let mut work = Work::default();
@@ -473,7 +496,7 @@ fn receiving<'a>(name: &'static str, reception: &'a Reception) -> Workload<'a> {
         work
     };
     Workload {
-        name,
+        name: name.to_string(),
         exported: Box::new(through_image(raw::receive)),
         own_state: Box::new(own_state),
         image: Box::new(through_image(
@@ -519,7 +542,7 @@ fn natural_side(reception: &Reception) -> impl FnMut() -> Work + '_ {
     }
 }
 
-fn bursts<'a>(name: &'static str, reception: &'a Reception) -> BurstWorkload<'a> {
+fn bursts<'a>(name: &str, reception: &'a Reception) -> BurstWorkload<'a> {
     let counts = reception.frames.iter().map(|frame| {
         let count = generate::message_count(Draft::D02, frame);
         count.expect("a good frame")
@@ -530,7 +553,7 @@ fn bursts<'a>(name: &'static str, reception: &'a Reception) -> BurstWorkload<'a>
     let single = receiving(name, reception);
     let baselines = single.baselines.expect("those of receiving calls");
     BurstWorkload {
-        name,
+        name: name.to_string(),
         burst: by_message(burst_side(reception, raw::receive_burst)),
         single: by_message(single.exported),
         model: by_message(burst_side(reception, interface::receive_burst)),
@@ -628,12 +651,7 @@ fn natural_burst_side(reception: &Reception) -> Side<'_> {
     })
 }
 
-fn sending<'a>(
-    name: &'static str,
-    draft: Draft,
-    frame_size: u64,
-    bundles: &'a [Vec<u8>],
-) -> Workload<'a> {
+fn sending<'a>(name: &str, draft: Draft, frame_size: u64, bundles: &'a [Vec<u8>]) -> Workload<'a> {
     type Image = [u8; SENDER_IMAGE];
     type Start = fn(Draft, &mut Image, u64, u32) -> u32;
     type Call = fn(&mut Image, &[u8], &mut [u8], &mut [u64; 4]) -> u32;
@@ -679,7 +697,7 @@ fn sending<'a>(
         work
     };
     Workload {
-        name,
+        name: name.to_string(),
         exported: Box::new(through_image(Exported::sender_start, raw::place)),
         own_state: Box::new(own_state),
         image: Box::new(through_image(Model::sender_start, interface::place)),
@@ -735,7 +753,7 @@ fn playing<'a>(name: &'static str, frames: &[Vec<u8>]) -> RecordingWorkload<'a> 
     type Call = fn(&[u8], u64, &mut [u8], Bundles, Notes, &mut [u64; 4]) -> u32;
     let side = |call: Call| {
         let (recording, _) = lent(&generate::recorded(frames), 0);
-        let (pool, output) = lent(&[0; POOL], RECORDED_OCTETS);
+        let (pool, output) = lent(&[0; PLAY_POOL], RECORDED_OCTETS);
         let mut lengths = [0; PLAYED_BUNDLES];
         let mut places = [0; RECORDED_FRAMES];
         let mut reasons = [0; RECORDED_FRAMES];
@@ -780,15 +798,19 @@ fn small_bundle_frames(random: &mut Random, count: usize) -> Vec<Vec<u8>> {
     packed((0..count).map(|_| generate::message(BUNDLE, &[], &random.octets(8))))
 }
 
-fn small_piece_frames(random: &mut Random, draft: Draft, groups: u32) -> Vec<Vec<u8>> {
-    const TOGETHER: u32 = 8;
+/// How many transfers are mixed: so many that none leaves the window before it is whole.
+fn together(window: Window) -> u32 {
+    window.number() / 2
+}
+
+fn small_piece_frames(random: &mut Random, settings: Settings, transfers: u32) -> Vec<Vec<u8>> {
     const PIECES: usize = 60;
+    let Settings { draft, window } = settings;
     let mut messages = Vec::new();
-    for group in 0..groups {
+    for first in (0..transfers).step_by(together(window) as usize) {
         let mut own = Vec::new();
         for place in 0..PIECES {
-            for transfer in 0..TOGETHER {
-                let number = group * TOGETHER + transfer;
+            for number in first..first + together(window) {
                 let piece = Piece::sent(draft, number, place, PIECES);
                 own.push(piece.message(draft, &[], &random.octets(4)));
             }
@@ -811,12 +833,13 @@ fn passed_frames(random: &mut Random) -> Vec<Vec<u8>> {
 }
 
 /// Segments of a few transfers, all behind chains of hints; nothing is completed.
-fn hint_frames(random: &mut Random) -> Vec<Vec<u8>> {
+fn hint_frames(random: &mut Random, window: Window) -> Vec<Vec<u8>> {
+    let transfers = together(window);
     packed((0..512).map(|at| {
         let hints = [0x01, 2, 7, 7, 0x03, 0, 0x04, 4, 1, 2, 3, 4];
         let piece = Piece {
-            number: at % 8,
-            index: 1 + at / 8 % 60,
+            number: at / (64 * transfers) * transfers + at % transfers,
+            index: 1 + at / transfers % 64 % 60,
             end: false,
         };
         piece.message(Draft::D02, &hints, &random.octets(4))

@@ -1,4 +1,5 @@
-//! The scenarios of the differential test, in both drafts, for a given time or number of calls.
+//! The scenarios of the differential test, in both drafts and every window, for a given time or number of
+//! calls.
 //!
 //!     soak calls NUMBER [SEED]
 //!     soak seconds NUMBER [SEED]

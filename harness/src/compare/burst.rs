@@ -11,6 +11,8 @@ pub struct Burst<'a> {
     pub sizes: &'a [u16],
     pub octets: &'a [u8],
     pub from: (u64, u64),
+    /// Another pool of this length in place of the carried one.
+    pub other_pool: Option<usize>,
     pub output: usize,
 }
 
@@ -117,40 +119,75 @@ impl ReceiverPair {
     pub fn receive_burst(&mut self, trial: &mut Trial, burst: Burst) -> Result<Taken, u32> {
         trial.calls += 1;
         trial.coverage.burst_calls += 1;
-        let draft = self.draft();
+        let (draft, settings) = (self.draft(), self.settings());
         let lent = [(); BURST_RESULT].map(|_| trial.random.draw());
         let mut memory = Bursting::new(trial, &burst);
+        let [model, exported] = self.call_burst(trial, &burst, &mut memory, lent);
+        let number = trial.same_answer(draft, model, exported);
+        self.after_burst(trial, number);
+        trial.check(self.settings() == settings, "another draft or window");
+        let result = model.1;
+        if number != 0 {
+            trial.check(result == lent, "result of a refused call");
+            memory.check(trial, &burst, [0; 3]);
+            if let (2, Some(length), Some(settings)) = (number, burst.other_pool, settings) {
+                let cases = trial.coverage.of_mut(settings.draft);
+                let cases = cases.of_mut(settings.window);
+                cases.refused_pool(length, true);
+            }
+            return Err(number);
+        }
+        let [count, octets, frame, _, refused] = result.map(|entry| entry as usize);
+        memory.check(trial, &burst, [count, octets, refused]);
+        let taken = memory.taken(trial, result);
+        if let Some(settings) = settings {
+            let cases = trial.coverage.of_mut(settings.draft);
+            cases.taken(&taken, frame < burst.sizes.len());
+            cases.of_mut(settings.window).bursts += 1;
+        }
+        Ok(taken)
+    }
+
+    /// The call on both sides, with what was returned and left in the result.
+    fn call_burst(
+        &mut self,
+        trial: &mut Trial,
+        burst: &Burst,
+        memory: &mut Bursting,
+        lent: [u64; BURST_RESULT],
+    ) -> [(u32, [u64; BURST_RESULT]); 2] {
         let (mut result, mut exported_result) = (lent, lent);
+        let other = burst.other_pool;
+        let mut other = other.map(|length| Both::new(trial.random.octets(length)));
         let (bundles, notes) = memory.model();
-        let (image, pool, from) = (&mut self.image, &mut self.pool, burst.from);
-        let frames = (burst.sizes, burst.octets);
-        let returned =
-            interface::receive_burst(image, pool, frames, from, bundles, notes, &mut result);
+        let returned = interface::receive_burst(
+            &mut self.image,
+            other
+                .as_mut()
+                .map_or(&mut self.pool, |pool| &mut pool.model),
+            (burst.sizes, burst.octets),
+            burst.from,
+            bundles,
+            notes,
+            &mut result,
+        );
+        let pool = other.as_mut().map(|pool| &mut pool.exported);
         let (frames, bundles, notes) = memory.exported();
         let exported = raw::receive_burst(
             self.exported_image.array(),
-            self.exported_pool.lend(),
+            pool.unwrap_or(&mut self.exported_pool).lend(),
             frames,
             burst.from,
             bundles,
             notes,
             &mut exported_result,
         );
-        let number = trial.same_answer(draft, (returned, result), (exported, exported_result));
-        self.after_burst(trial, number);
-        if number != 0 {
-            trial.check(result == lent, "result of a refused call");
-            memory.check(trial, &burst, [0; 3]);
-            return Err(number);
+        if let Some(pool) = other {
+            let carried_out = returned == 0;
+            let written = if carried_out { pool.model.len() } else { 0 };
+            pool.check(trial, written, "other pool");
         }
-        let [count, octets, frame, _, refused] = result.map(|entry| entry as usize);
-        memory.check(trial, &burst, [count, octets, refused]);
-        let taken = memory.taken(trial, result);
-        if let Some(draft) = draft {
-            let cases = trial.coverage.of_mut(draft);
-            cases.taken(&taken, frame < burst.sizes.len());
-        }
-        Ok(taken)
+        [(returned, result), (exported, exported_result)]
     }
 
     /// Compares image and pool, which stay where the call was refused.

@@ -1,9 +1,12 @@
 //! Recordings written, opened and played on both sides at once.
 
 use super::{Lent, Trial};
-use crate::model::{interface, Draft};
+use crate::model::{interface, Draft, Window};
 use crate::random::Random;
-use btpu::raw::{self, PLAYED_BUNDLES, POOL, RECORDED_FRAMES, RECORDED_OCTETS};
+use btpu::raw::{self, PLAYED_BUNDLES, RECORDED_FRAMES, RECORDED_OCTETS};
+
+/// Octets of a playback's pool.
+pub const PLAY_POOL: usize = Window::PLAYBACK.pool();
 
 /// A list lent to both sides, and what it held before.
 pub(super) struct Both<T> {
@@ -63,7 +66,7 @@ impl PlayMemory {
     /// Just enough.
     pub fn least(random: &mut Random) -> PlayMemory {
         PlayMemory {
-            pool: random.octets(POOL),
+            pool: random.octets(PLAY_POOL),
             output: RECORDED_OCTETS,
             lengths: PLAYED_BUNDLES,
             places: RECORDED_FRAMES,
@@ -74,7 +77,7 @@ impl PlayMemory {
     /// What is not as it must be: pool, output, lengths, places, reasons.
     pub fn wrong(&self) -> [bool; 5] {
         [
-            self.pool.len() != POOL,
+            self.pool.len() != PLAY_POOL,
             self.output < RECORDED_OCTETS,
             self.lengths < PLAYED_BUNDLES,
             self.places < RECORDED_FRAMES,
@@ -268,7 +271,7 @@ impl Trial<'_> {
             self.check(result == lent, "result of a refused call");
             playing.check(self, [0; 4]);
             let recordings = &mut self.coverage.recordings;
-            recordings.play_refused(recording, memory.wrong(), number);
+            recordings.play_refused(recording, memory, number);
             return Err(number);
         }
         let [_, bundles, octets, refused] = result.map(|entry| entry as usize);
@@ -276,7 +279,7 @@ impl Trial<'_> {
         self.check(bundles <= PLAYED_BUNDLES, "more bundles than there may be");
         self.check(octets <= RECORDED_OCTETS, "more octets than there may be");
         self.check(refused <= RECORDED_FRAMES, "more notes than there may be");
-        playing.check(self, [POOL, bundles, octets, refused]);
+        playing.check(self, [PLAY_POOL, bundles, octets, refused]);
         let played = playing.played(self, result);
         self.coverage.recordings.played(recording, limit, &played);
         Ok(played)

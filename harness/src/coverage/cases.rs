@@ -1,14 +1,15 @@
 //! Counts of the cases that calls with images of one draft have reached.
 
-use super::{named, EDGES, FRAME_LENGTHS, FRAME_SIZES};
+use super::windows::{Windows, NO_WINDOWS, STARTED};
+use super::{named, FRAME_LENGTHS, FRAME_SIZES};
 use crate::compare::{Received, Send, Sent, Taken};
 use crate::generate::{RECEIVER_DAMAGE, SENDER_DAMAGE};
-use crate::model::receiver::{Contradiction, Distance, Observer, Phase, Step, CELL};
+use crate::model::receiver::{Contradiction, Observer, Phase, Step, CELL};
 use crate::model::sender::State;
-use crate::model::Draft;
+use crate::model::{Distance, Draft, Settings, Window};
 
 /// Refusals of calls with an image, and of frames in a burst; draft 00 has no 7.
-const REFUSED: [usize; 14] = [1, 2, 3, 4, 6, 7, 8, 9, 10, 11, 12, 13, 14, 19];
+const REFUSED: [usize; 15] = [1, 2, 3, 4, 6, 7, 8, 9, 10, 11, 12, 13, 14, 19, 21];
 const NOTED: [usize; 5] = [3, 4, 6, 7, 8];
 
 /// The answers of sending calls, and what they stand for.
@@ -42,12 +43,12 @@ pub struct Cases {
     /// Lengths past the frame that are 65,536 or more.
     long_lengths: u64,
     /// Images checked that are sound, and that are not.
-    pub checked_receivers: [u64; 2],
     pub checked_senders: [u64; 2],
-    pub distances: [u64; 5],
-    pub edges: [u64; EDGES.len()],
-    /// New numbers beyond 4,294,967,295.
-    wraps: u64,
+    windows: [Windows; Window::ALL.len()],
+    /// Receivers' starts, by the number of the window that they were given.
+    receivers_started: [u64; STARTED.len()],
+    /// Receivers' images refused for their window's octet alone, by that octet.
+    no_windows: [u64; NO_WINDOWS.len()],
     /// Steps 1 to 6, of segments and of ends; entry 0 is not used.
     pub steps: [[u64; 7]; 2],
     /// By segments and ends above the final index; by ends with another one, and below what is held; by
@@ -58,9 +59,6 @@ pub struct Cases {
     pub joins: [u64; 6],
     /// Cancels inside the window, by the row's phase before.
     pub cancels: [u64; 5],
-    finished: u64,
-    plain_bundles: u64,
-    transfers: u64,
     empty_bundles: u64,
     full_bundles: u64,
     frame_lengths: [u64; FRAME_LENGTHS.len()],
@@ -73,6 +71,8 @@ pub struct Cases {
     bursts: [u64; 2],
     /// Frames with at least 500 messages.
     pub dense_frames: u64,
+    /// Transfers that window 8 hands out beyond those of window 4, and window 16 beyond those of 8.
+    pub by_greater: [u64; 2],
     /// Frames of the other draft, taken and refused.
     pub other_frames: [u64; 2],
 }
@@ -93,6 +93,29 @@ impl Cases {
         self.places[case] += 1;
     }
 
+    /// What calls with images of a window have reached.
+    pub fn of(&self, window: Window) -> &Windows {
+        &self.windows[place(window)]
+    }
+
+    pub fn of_mut(&mut self, window: Window) -> &mut Windows {
+        &mut self.windows[place(window)]
+    }
+
+    /// Counts a receiver's start with this number for its window.
+    pub fn receiver_started(&mut self, window: u32) {
+        if let Some(place) = STARTED.iter().position(|&number| number == window) {
+            self.receivers_started[place] += 1;
+        }
+    }
+
+    /// Counts an image that is refused for this window's octet alone.
+    pub fn no_window(&mut self, octet: u8) {
+        if let Some(place) = NO_WINDOWS.iter().position(|&none| none == octet) {
+            self.no_windows[place] += 1;
+        }
+    }
+
     /// Counts a sender's start with this frame size.
     pub fn started(&mut self, size: u64) {
         if let Some(edge) = FRAME_SIZES.iter().position(|&edge| edge == size) {
@@ -101,23 +124,21 @@ impl Cases {
     }
 
     /// Counts what a receiving call told of a frame, and of a bad message that starts at `place`.
-    pub fn received(&mut self, draft: Draft, frame: &[u8], place: u32, received: Received) {
+    pub fn received(&mut self, settings: Settings, frame: &[u8], place: u32, received: Received) {
+        self.of_mut(settings.window).received(received);
         if let Some(edge) = FRAME_LENGTHS.iter().position(|&edge| edge == frame.len()) {
             self.frame_lengths[edge] += 1;
         }
         match received {
             Received::Refused(6) => {
-                let high = match draft {
+                let high = match settings.draft {
                     Draft::D00 => frame[place as usize + 1],
                     Draft::D02 => frame[place as usize + 1] & 0x0f,
                 };
                 self.long_lengths += u64::from(high != 0);
             }
-            Received::Refused(_) => {}
-            Received::Finished => self.finished += 1,
-            Received::Bundle { length, number, .. } => {
-                self.plain_bundles += u64::from(number.is_none());
-                self.transfers += u64::from(number.is_some());
+            Received::Refused(_) | Received::Finished => {}
+            Received::Bundle { length, .. } => {
                 self.empty_bundles += u64::from(length == 0);
                 self.full_bundles += u64::from(length == CELL);
             }
@@ -172,7 +193,7 @@ impl Cases {
     pub fn cases(&self, draft: Draft) -> Vec<(String, u64)> {
         let lists = [
             self.refused(draft),
-            self.window(),
+            self.windows(),
             self.row(draft),
             self.answers(),
             self.images(),
@@ -197,16 +218,20 @@ impl Cases {
         cases
     }
 
-    fn window(&self) -> Vec<(String, u64)> {
-        let rows = ["G absent", "0", "new", "outside", "behind"];
-        let edges = EDGES.map(|edge| edge.to_string());
-        let edges = edges.each_ref().map(String::as_str);
-        [
-            named("window", &rows, &self.distances),
-            named("difference", &edges, &self.edges),
-            named("difference", &["over the wrap"], &[self.wraps]),
-        ]
-        .concat()
+    fn windows(&self) -> Vec<(String, u64)> {
+        let started = STARTED.map(|number| number.to_string());
+        let started = started.each_ref().map(String::as_str);
+        let octets = NO_WINDOWS.map(|octet| octet.to_string());
+        let octets = octets.each_ref().map(String::as_str);
+        let mut cases = named("start with window", &started, &self.receivers_started);
+        cases.extend(named("refused window's octet", &octets, &self.no_windows));
+        for window in Window::ALL {
+            let of_window = self.of(window).cases(window).into_iter();
+            cases.extend(of_window.map(|(name, count)| (format!("{window}, {name}"), count)));
+        }
+        let greater = ["window 8 beyond 4", "window 16 beyond 8"];
+        cases.extend(named("transfer handed out", &greater, &self.by_greater));
+        cases
     }
 
     fn row(&self, draft: Draft) -> Vec<(String, u64)> {
@@ -247,20 +272,11 @@ impl Cases {
     }
 
     fn answers(&self) -> Vec<(String, u64)> {
-        let received = [
-            ("Finished", self.finished),
-            ("bundle without a number", self.plain_bundles),
-            ("bundle of a transfer", self.transfers),
-            ("bundle of 0 octets", self.empty_bundles),
-            ("bundle of 4,096 octets", self.full_bundles),
-        ];
+        let lengths = ["bundle of 0 octets", "bundle of 4,096 octets"];
+        let counts = [self.empty_bundles, self.full_bundles];
         let bursts = ["to the end", "stopped before"];
         [
-            named(
-                "answer",
-                &received.map(|(name, _)| name),
-                &received.map(|(_, count)| count),
-            ),
+            named("answer", &lengths, &counts),
             named("sent", &SENT, &self.sent),
             named("bundle", &["from sender to receiver"], &[self.round_trips]),
             named("burst", &bursts, &self.bursts),
@@ -271,7 +287,6 @@ impl Cases {
     fn images(&self) -> Vec<(String, u64)> {
         let sound = ["sound", "not sound"];
         [
-            named("receiver checked", &sound, &self.checked_receivers),
             named("sender checked", &sound, &self.checked_senders),
             named("unsound receiver", &RECEIVER_DAMAGE, &self.receiver_damage),
             named("unsound sender", &SENDER_DAMAGE, &self.sender_damage),
@@ -298,22 +313,22 @@ impl Cases {
     }
 }
 
+fn place(window: Window) -> usize {
+    match window {
+        Window::Four => 0,
+        Window::Eight => 1,
+        Window::Sixteen => 2,
+    }
+}
+
 impl Observer for Cases {
-    fn distance(&mut self, case: Distance, difference: u32, number: u32) {
-        let place = match case {
-            Distance::First => 0,
-            Distance::Same => 1,
-            Distance::New => 2,
-            Distance::Outside => 3,
-            Distance::Behind => 4,
-        };
-        self.distances[place] += 1;
-        self.wraps += u64::from(case == Distance::New && number < difference);
-        if case != Distance::First {
-            if let Some(edge) = EDGES.iter().position(|&edge| edge == difference) {
-                self.edges[edge] += 1;
-            }
-        }
+    fn distance(&mut self, window: Window, case: Distance, difference: u32, number: u32) {
+        let cases = self.of_mut(window);
+        cases.distance(window, case, difference, number);
+    }
+
+    fn frees(&mut self, window: Window, row: usize, before: Phase) {
+        self.of_mut(window).frees(row, before);
     }
 
     fn step(&mut self, step: Step, end: bool) {

@@ -1,10 +1,10 @@
 //! Counts of the cases that calls for recordings have reached.
 
 use super::named;
-use crate::compare::Played;
+use crate::compare::{PlayMemory, Played};
 use crate::generate::message_count;
 use crate::model::recording::Recording;
-use crate::model::Draft;
+use crate::model::{Draft, Window};
 use btpu::raw::{PLAYED_BUNDLES, RECORDED_FRAMES, RECORDED_OCTETS};
 
 const RECORD_REFUSED: [&str; 7] = [
@@ -42,6 +42,9 @@ const MEMORY_REFUSED: [&str; 5] = [
     "24 reasons",
 ];
 
+/// Pools that are refused since they are of another window than the playback's.
+const SMALLER: [Window; 2] = [Window::Four, Window::Eight];
+
 const NOTED: [u32; 4] = [4, 6, 7, 8];
 
 const STOPS: [&str; 6] = [
@@ -73,6 +76,7 @@ pub struct Recordings {
     open_refused: [u64; READER_REFUSED.len()],
     play_refused: [u64; READER_REFUSED.len()],
     memory_refused: [u64; MEMORY_REFUSED.len()],
+    smaller_pools: [u64; SMALLER.len()],
     noted: [u64; NOTED.len()],
     stops: [u64; STOPS.len()],
     extremes: [u64; EXTREMES.len()],
@@ -93,8 +97,11 @@ impl Recordings {
         self.open_refused[reader_case(recording, number)] += 1;
     }
 
-    /// `wrong` tells of pool, output, lengths, places and reasons whether they are wrong.
-    pub fn play_refused(&mut self, recording: &[u8], wrong: [bool; 5], number: u32) {
+    pub fn play_refused(&mut self, recording: &[u8], memory: &PlayMemory, number: u32) {
+        let wrong = memory.wrong();
+        for (count, window) in self.smaller_pools.iter_mut().zip(SMALLER) {
+            *count += u64::from(number == 2 && memory.pool.len() == window.pool());
+        }
         if (16..=20).contains(&number) {
             self.play_refused[reader_case(recording, number)] += 1;
         } else if wrong.iter().filter(|&&wrong| wrong).count() == 1 {
@@ -126,6 +133,7 @@ impl Recordings {
     pub fn cases(&self) -> Vec<(String, u64)> {
         let noted = NOTED.map(|number| number.to_string());
         let noted = noted.each_ref().map(String::as_str);
+        let pools = ["of window 4", "of window 8"];
         let written = ["output just long enough", "longer output"];
         let played = ["as single calls", "bundle out of several frames"];
         let counts = [self.taken_singly, self.out_of_several_frames];
@@ -136,6 +144,7 @@ impl Recordings {
             named("open refused", &READER_REFUSED, &self.open_refused),
             named("play refused", &READER_REFUSED, &self.play_refused),
             named("play refused", &MEMORY_REFUSED, &self.memory_refused),
+            named("play refused, pool", &pools, &self.smaller_pools),
             named("noted", &noted, &self.noted),
             named("playback stopped", &STOPS, &self.stops),
             named("played", &played, &counts),

@@ -6,9 +6,12 @@ use super::{
     MAX_FRAME,
 };
 use crate::model::sender::{Answer, State};
-use crate::model::Draft;
+use crate::model::{Draft, Settings, Window};
 use crate::random::Random;
 use btpu::raw::{RECORDED_FRAMES, RECORDED_OCTETS};
+
+/// What a playback receives with.
+pub const PLAYBACK: Settings = Settings::new(Draft::D02, Window::PLAYBACK);
 
 /// The frames' lengths and their octets one behind the other.
 pub fn joined(frames: &[Vec<u8>]) -> (Vec<u16>, Vec<u8>) {
@@ -57,11 +60,11 @@ pub fn sent_frames(random: &mut Random, draft: Draft) -> Vec<Vec<u8>> {
     frames
 }
 
-fn hostile_frames(random: &mut Random, draft: Draft) -> Vec<Vec<u8>> {
+fn hostile_frames(random: &mut Random, settings: Settings) -> Vec<Vec<u8>> {
     let greatest = Some(first_number(random));
     let count = random.within(1, 12);
     (0..count)
-        .map(|_| hostile_frame(random, draft, greatest))
+        .map(|_| hostile_frame(random, settings, greatest))
         .collect()
 }
 
@@ -72,13 +75,18 @@ fn honest_frames(random: &mut Random, draft: Draft) -> Vec<Vec<u8>> {
     pack(random, &messages, size)
 }
 
-/// Frames for a recording: honest, a sender's, hostile, malformed and random ones mixed.
-pub fn recorded_frames(random: &mut Random, draft: Draft) -> Vec<Vec<u8>> {
+/// Frames for a recording or a burst: honest, a sender's, hostile, malformed and random ones mixed.
+pub fn recorded_frames(random: &mut Random, settings: Settings) -> Vec<Vec<u8>> {
+    let draft = settings.draft;
     let mut frames = match random.below(8) {
         0..=2 => honest_frames(random, draft),
         3..=4 => sent_frames(random, draft),
-        5..=6 => hostile_frames(random, draft),
-        _ => [honest_frames(random, draft), hostile_frames(random, draft)].concat(),
+        5..=6 => hostile_frames(random, settings),
+        _ => [
+            honest_frames(random, draft),
+            hostile_frames(random, settings),
+        ]
+        .concat(),
     };
     for _ in 0..random.below(4) {
         let at = random.below(frames.len() + 1);
@@ -98,12 +106,12 @@ pub fn recorded_frames(random: &mut Random, draft: Draft) -> Vec<Vec<u8>> {
 }
 
 /// A few short frames, so that a recording can be tried in many ways.
-pub fn small_frames(random: &mut Random, draft: Draft) -> Vec<Vec<u8>> {
+pub fn small_frames(random: &mut Random, settings: Settings) -> Vec<Vec<u8>> {
     let mut greatest = Some(first_number(random));
     let mut frames: Vec<Vec<u8>> = (0..random.below(6))
         .map(|_| {
             let count = random.within(1, 3);
-            let messages = (0..count).map(|_| hostile_message(random, draft, &mut greatest));
+            let messages = (0..count).map(|_| hostile_message(random, settings, &mut greatest));
             let short = messages.filter(|message| message.len() <= 30);
             short.collect::<Vec<_>>().concat()
         })
@@ -112,7 +120,7 @@ pub fn small_frames(random: &mut Random, draft: Draft) -> Vec<Vec<u8>> {
         if frame.is_empty() {
             frame.push(random.pick(&[0, 2]));
         } else if random.once_in(5) {
-            damage_frame(random, draft, frame);
+            damage_frame(random, settings.draft, frame);
         }
     }
     within_limits(frames)
@@ -130,14 +138,14 @@ fn within_limits(mut frames: Vec<Vec<u8>>) -> Vec<Vec<u8>> {
     frames
 }
 
-/// Recordings as full as they can be, in one of some ways, of frames of draft 02.
+/// Recordings as full as they can be, in one of some ways, of frames for a playback.
 pub fn full_frames(random: &mut Random) -> Vec<Vec<u8>> {
     match random.below(4) {
         0 => {
             // 60 octets for each of 1,024 frames, refused where a message does not fit.
             let mut greatest = Some(first_number(random));
             let frame = |_| {
-                let mut frame = hostile_message(random, Draft::D02, &mut greatest);
+                let mut frame = hostile_message(random, PLAYBACK, &mut greatest);
                 frame.resize(RECORDED_OCTETS / RECORDED_FRAMES, 0);
                 frame
             };

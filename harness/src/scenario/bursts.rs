@@ -1,18 +1,16 @@
 //! Scenarios of bursts.
 
-use super::some_receiver;
+use super::{some_receiver, wrong_pool};
+use crate::board::HandedOut;
 use crate::compare::{Burst, Lending, Received, ReceiverPair, Trial};
 use crate::generate;
 use btpu::raw::{BURST_FRAMES, NO_NUMBER};
 
-/// Bundles with their numbers, and refused frames with the numbers of their refusals.
-type HandedOut = (Vec<(u64, Vec<u8>)>, Vec<(u32, u32)>);
-
 /// Frames of every kind, also some that cannot be recorded.
 fn frames(trial: &mut Trial) -> Vec<Vec<u8>> {
-    let draft = trial.draft_of_frames();
+    let settings = trial.settings_of_frames();
     let random = &mut trial.random;
-    let mut frames = generate::recorded_frames(random, draft);
+    let mut frames = generate::recorded_frames(random, settings);
     for _ in 0..random.below(4) {
         let at = random.below(frames.len() + 1);
         frames.insert(at, generate::random_frame(random));
@@ -47,6 +45,7 @@ fn by_bursts(trial: &mut Trial, receiver: &mut ReceiverPair, frames: &[Vec<u8>])
         sizes: &sizes,
         octets: &octets,
         from: (0, 0),
+        other_pool: None,
         output: trial.random.pick(&[4096, 4097, 8192, 20_000, 150_000]),
     };
     loop {
@@ -70,16 +69,20 @@ fn by_bursts(trial: &mut Trial, receiver: &mut ReceiverPair, frames: &[Vec<u8>])
 /// A burst that is refused, in one of some ways.
 fn refused_between(trial: &mut Trial, receiver: &mut ReceiverPair, mut burst: Burst) {
     let count = burst.sizes.len() as u64;
-    let number = match trial.random.below(4) {
+    let number = match trial.random.below(5) {
         0 => {
-            burst.output = trial.random.pick(&[0, 1, 4095]);
+            burst.other_pool = Some(wrong_pool(trial));
             2
         }
         1 => {
+            burst.output = trial.random.pick(&[0, 1, 4095]);
+            2
+        }
+        2 => {
             burst.sizes = &[0; BURST_FRAMES + 1];
             3
         }
-        2 => {
+        3 => {
             burst.octets = match burst.octets {
                 [] => &[0],
                 [_, rest @ ..] => rest,

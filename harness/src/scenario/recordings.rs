@@ -1,18 +1,17 @@
 //! Scenarios of recordings: written, damaged, played.
 
-use crate::compare::{Lending, PlayMemory, Played, Received, ReceiverPair, Trial};
-use crate::generate::{self, ROWS, UNRECORDABLE};
-use crate::model::Draft;
-use btpu::raw::POOL;
+use crate::compare::{Lending, PlayMemory, Played, Received, ReceiverPair, Trial, PLAY_POOL};
+use crate::generate::{self, PLAYBACK, UNRECORDABLE};
+use crate::model::{Draft, Window};
 
 /// Recordings as full as they can be cost time, so they are tried once in so many runs.
 const FULL_ONCE_IN: usize = 4;
 
-/// Frames to be recorded; a playback is of draft 02, also where they are of draft 00.
+/// Frames to be recorded; a playback is of draft 02, also where they are of draft 00, and of window 16.
 fn recorded_frames(trial: &mut Trial) -> Vec<Vec<u8>> {
-    trial.draft = Draft::D02;
-    let draft = trial.draft_of_frames();
-    generate::recorded_frames(&mut trial.random, draft)
+    trial.set(PLAYBACK);
+    let settings = trial.settings_of_frames();
+    generate::recorded_frames(&mut trial.random, settings)
 }
 
 /// What is written is read back, and what was read is written again; then what cannot be written.
@@ -55,7 +54,7 @@ fn write_again(trial: &mut Trial, recording: &[u8], sizes: &[u16]) {
 pub fn damaged_recordings(trial: &mut Trial) {
     let frames = match trial.random.below(4) {
         0 => recorded_frames(trial),
-        _ => generate::small_frames(&mut trial.random, Draft::D02),
+        _ => generate::small_frames(&mut trial.random, PLAYBACK),
     };
     let recording = generate::recorded(&frames);
     let enough = PlayMemory::least(&mut trial.random);
@@ -110,7 +109,9 @@ fn too_little(trial: &mut Trial, enough: &PlayMemory) -> (PlayMemory, u32) {
         let by = trial.random.pick(&[1, 1, 2, 1000]);
         match trial.random.below(5) {
             0 => {
-                let length = trial.random.pick(&[0, POOL - 1, POOL + 1, 2 * POOL]);
+                let [four, eight, _] = Window::ALL.map(Window::pool);
+                let near = [PLAY_POOL - 1, PLAY_POOL + 1, 2 * PLAY_POOL];
+                let length = trial.random.pick(&[&[0, four, eight], &near[..]].concat());
                 memory.pool = trial.random.octets(length);
             }
             1 => memory.output -= by,
@@ -119,7 +120,11 @@ fn too_little(trial: &mut Trial, enough: &PlayMemory) -> (PlayMemory, u32) {
             _ => memory.reasons = memory.reasons.saturating_sub(by),
         }
     }
-    let number = if memory.pool.len() == POOL { 24 } else { 2 };
+    let number = if memory.pool.len() == PLAY_POOL {
+        24
+    } else {
+        2
+    };
     (memory, number)
 }
 
@@ -157,7 +162,7 @@ fn as_single_calls(
     recording: &[u8],
     memory: &mut PlayMemory,
 ) -> Played {
-    trial.draft = Draft::D02;
+    trial.set(PLAYBACK);
     let mut receiver = ReceiverPair::start(trial);
     memory.pool = receiver.pool().to_vec();
     let Ok(played) = trial.play(recording, u64::MAX, memory) else {
@@ -214,7 +219,8 @@ fn take_singly(trial: &mut Trial, receiver: &mut ReceiverPair, frames: &[Vec<u8>
 fn held_before(image: &[u8], number: u32) -> bool {
     let greatest = image[4..8].try_into().expect("four octets");
     let behind = u32::from_be_bytes(greatest).wrapping_sub(number) as usize;
-    image[0] == 1 && behind < ROWS && generate::row(image, number as usize % ROWS)[0] == 1
+    let rows = PLAYBACK.window.rows();
+    image[0] == 1 && behind < rows && generate::row(image, number as usize % rows)[0] == 1
 }
 
 /// Plays with a limit and compares with a playback of all.
@@ -263,7 +269,7 @@ pub fn full_by_single_calls(trial: &mut Trial) {
 
 /// Every beginning of a recording; none but the whole is a recording.
 pub fn every_beginning(trial: &mut Trial) {
-    let frames = generate::small_frames(&mut trial.random, Draft::D02);
+    let frames = generate::small_frames(&mut trial.random, PLAYBACK);
     let recording = generate::recorded(&frames);
     let memory = PlayMemory::least(&mut trial.random);
     for length in 0..recording.len() {
@@ -276,7 +282,7 @@ pub fn every_beginning(trial: &mut Trial) {
 
 /// A recording with every single bit flipped, which may also leave a recording.
 pub fn every_bit(trial: &mut Trial) {
-    let frames = generate::small_frames(&mut trial.random, Draft::D02);
+    let frames = generate::small_frames(&mut trial.random, PLAYBACK);
     let mut recording = generate::recorded(&frames);
     let memory = PlayMemory::least(&mut trial.random);
     for bit in 0..8 * recording.len() {
