@@ -1,12 +1,17 @@
 //! The test vectors of `vectors/`, against the model and against the exported interface.
+//!
+//! Those of receiver.jsonl are of window 16. Where what they do is the same in a smaller window, they are
+//! run in it as well. Those of windows.jsonl say their window.
 
 use btpu::raw::{NO_NUMBER, RECEIVER_IMAGE, SENDER_IMAGE};
+use harness::board::hex;
+use harness::generate::RECEIVER_WINDOW;
 use harness::json::Json;
-use harness::model::Draft;
+use harness::model::receiver::Observer;
+use harness::model::{interface, Distance, Draft, Window, MAX_ROWS};
 use harness::sha256::sha256;
 use harness::side::{Exported, Model, Side};
 
-const ROWS: usize = 16;
 const ROW_IMAGE: usize = 196;
 const PIECES: usize = 64;
 
@@ -23,16 +28,6 @@ fn lines(name: &str) -> Vec<Json> {
     let text = std::fs::read_to_string(&path).unwrap_or_else(|fault| panic!("{path}: {fault}"));
     text.lines()
         .map(|line| Json::parse(line).unwrap_or_else(|fault| panic!("{path}: {fault}")))
-        .collect()
-}
-
-fn hex(text: &str) -> Vec<u8> {
-    assert!(
-        text.len().is_multiple_of(2),
-        "an even number of digits expected"
-    );
-    (0..text.len() / 2)
-        .map(|i| u8::from_str_radix(&text[2 * i..2 * i + 2], 16).expect("hexadecimal digits"))
         .collect()
 }
 
@@ -73,9 +68,10 @@ impl Digest {
     }
 }
 
-/// The image of a vector's state, or the name of an entry that the image cannot hold.
-fn receiver_image(state: &Json) -> Result<[u8; RECEIVER_IMAGE], &'static str> {
+/// The image of a vector's state in a window, or the name of an entry that the image cannot hold.
+fn receiver_image(state: &Json, window: Window) -> Result<[u8; RECEIVER_IMAGE], &'static str> {
     let mut image = [0; RECEIVER_IMAGE];
+    image[RECEIVER_WINDOW] = window.octet();
     image[0] = state.at("g_known").flag().into();
     let greatest = u32::try_from(state.at("g").unsigned()).map_err(|_| "g")?;
     image[4..8].copy_from_slice(&greatest.to_be_bytes());
@@ -113,7 +109,7 @@ fn receiver_serialisation(image: &[u8]) -> Vec<u8> {
             octets.extend([0, 0, length[0], length[1]]);
         }
     }
-    assert_eq!(octets.len(), 5 + ROWS * (2 + 4 * (2 + 2 * PIECES)));
+    assert_eq!(octets.len(), 5 + MAX_ROWS * (2 + 4 * (2 + 2 * PIECES)));
     octets
 }
 
@@ -124,112 +120,225 @@ struct Digests {
     output: Digest,
 }
 
-fn run_receiver<S: Side>(line: &Json, mut state: [u8; RECEIVER_IMAGE], digests: &mut Digests) {
-    let pool = line.at("pool");
-    let mut pool = pool_pattern(size(pool.at("len")), size(pool.at("seed")));
-    for (count, call) in line.at("calls").list().iter().enumerate() {
-        let context = format!("{} {} call {count}", S::NAME, line.at("id").text());
-        let frame = match call.at("frame") {
-            Json::Text(digits) => hex(digits),
-            other => vec![other.at("fill").unsigned() as u8; size(other.at("len"))],
+/// The frame of a call.
+fn frame_of(call: &Json) -> Vec<u8> {
+    match call.at("frame") {
+        Json::Text(digits) => hex(digits),
+        other => vec![other.at("fill").unsigned() as u8; size(other.at("len"))],
+    }
+}
+
+/// What a call returns and leaves in its result, by its answer.
+fn expected(call: &Json, context: &str) -> (u64, [u64; 4]) {
+    let mut result = UNTOUCHED;
+    match call.at("answer").text() {
+        "finished" => result[0] = 0,
+        "bundle" => {
+            let number = match call.at("number") {
+                Json::Null => NO_NUMBER,
+                number => number.unsigned(),
+            };
+            let entry = |name| call.at(name).unsigned();
+            result = [1, entry("length"), entry("next"), number];
+        }
+        "refused" => {
+            let number = call.at("no").unsigned();
+            assert_ne!(number, 0, "{context}");
+            let place = match call.at("at") {
+                Json::Null => {
+                    assert!(!(4..=8).contains(&number), "{context}");
+                    0
+                }
+                at => at.unsigned(),
+            };
+            return (number + 256 * place, result);
+        }
+        other => panic!("{context}: no such answer: {other}"),
+    }
+    (0, result)
+}
+
+/// A state, with the pool that the vector's pool begins with.
+struct Receiver {
+    window: Window,
+    state: [u8; RECEIVER_IMAGE],
+    pool: Vec<u8>,
+}
+
+impl Receiver {
+    /// The receiver that a line starts with, or the name of an entry that the image cannot hold.
+    fn of<S: Side>(line: &Json, window: Window) -> Result<Receiver, &'static str> {
+        let state = match line.at("state") {
+            Json::Text(text) => {
+                assert_eq!(text, "start");
+                let mut state = [0xa5; RECEIVER_IMAGE];
+                let returned = S::receiver_start(Draft::D02, window.number(), &mut state);
+                assert_eq!(returned, 0, "{}", line.at("id").text());
+                state
+            }
+            state => receiver_image(state, window)?,
         };
+        let pool = line.at("pool");
+        let pool = pool_pattern(size(pool.at("len")), size(pool.at("seed")));
+        Ok(Receiver {
+            window,
+            state,
+            pool,
+        })
+    }
+
+    /// A call; the answer is what it returned.
+    fn receive<S: Side>(
+        &mut self,
+        call: &Json,
+        output: &mut [u8],
+        result: &mut [u64; 4],
+        context: &str,
+    ) -> u32 {
+        let frame = frame_of(call);
+        let place = call.at("place").unsigned();
+        let Some(length) = call.get("pool_len") else {
+            let pool = &mut self.pool[..self.window.pool()];
+            return S::receive(&mut self.state, pool, &frame, place, output, result);
+        };
+        let mut other = self.pool.clone();
+        other.resize(size(length), 0);
+        let lent = other.clone();
+        let returned = S::receive(&mut self.state, &mut other, &frame, place, output, result);
+        assert!(other == lent, "{context}: the other pool changed");
+        returned
+    }
+}
+
+fn run_receiver<S: Side>(line: &Json, mut receiver: Receiver, digests: &mut Digests) {
+    let window = receiver.window;
+    for (count, call) in line.at("calls").list().iter().enumerate() {
+        let id = line.at("id").text();
+        let context = format!("{} {id}, {window}, call {count}", S::NAME);
         let mut output = vec![call.at("out_fill").unsigned() as u8; size(call.at("out_len"))];
         let mut result = UNTOUCHED;
-        let place = call.at("place").unsigned();
-        let checked = S::receiver_check(&state);
-        let returned = match call.get("pool_len") {
-            None => S::receive(
-                &mut state,
-                &mut pool,
-                &frame,
-                place,
-                &mut output,
-                &mut result,
-            ),
-            Some(length) => {
-                let mut other = pool.clone();
-                other.resize(size(length), 0);
-                let lent = other.clone();
-                let returned = S::receive(
-                    &mut state,
-                    &mut other,
-                    &frame,
-                    place,
-                    &mut output,
-                    &mut result,
-                );
-                assert!(other == lent, "{context}: the other pool changed");
-                returned
-            }
-        };
-        let mut expected = UNTOUCHED;
-        let mut refusal = 0;
-        match call.at("answer").text() {
-            "finished" => expected[0] = 0,
-            "bundle" => {
-                expected[0] = 1;
-                expected[1] = call.at("length").unsigned();
-                expected[2] = call.at("next").unsigned();
-                expected[3] = match call.at("number") {
-                    Json::Null => NO_NUMBER,
-                    number => number.unsigned(),
-                };
-                if let Some(bundle) = call.get("bundle") {
-                    assert_eq!(
-                        output[..size(call.at("length"))],
-                        hex(bundle.text()),
-                        "{context}"
-                    );
-                }
-            }
-            "refused" => {
-                refusal = call.at("no").unsigned();
-                assert_ne!(refusal, 0, "{context}");
-                match call.at("at") {
-                    Json::Null => assert!(!(4..=8).contains(&refusal), "{context}"),
-                    at => refusal += 256 * at.unsigned(),
-                }
-            }
-            other => panic!("{context}: no such answer: {other}"),
-        }
+        let checked = S::receiver_check(&receiver.state);
+        let returned = receiver.receive::<S>(call, &mut output, &mut result, &context);
+        let (refusal, entries) = expected(call, &context);
         assert_eq!(u64::from(returned), refusal, "{context}");
         assert_eq!(checked, u32::from(refusal == 1), "{context}: check");
-        assert_eq!(result, expected, "{context}: result");
-        let digest = digests.state.of(&receiver_serialisation(&state));
+        assert_eq!(result, entries, "{context}: result");
+        if let Some(bundle) = call.get("bundle") {
+            let bundle = hex(bundle.text());
+            assert_eq!(output[..bundle.len()], bundle, "{context}: bundle");
+            assert_eq!(entries[1], bundle.len() as u64, "{context}: bundle");
+        }
+        if let Some(state) = call.get("state_after") {
+            let after = receiver_image(state, window);
+            assert!(after == Ok(receiver.state), "{context}: state");
+        }
+        let digest = digests.state.of(&receiver_serialisation(&receiver.state));
         assert_eq!(digest, call.at("state_sha256").text(), "{context}: state");
-        let digest = digests.pool.of(&pool);
+        let digest = digests.pool.of(&receiver.pool);
         assert_eq!(digest, call.at("pool_sha256").text(), "{context}: pool");
         let digest = digests.output.of(&output);
         assert_eq!(digest, call.at("output_sha256").text(), "{context}: output");
     }
 }
 
-/// Lines and calls run, and the entries for which lines were left out.
-fn receiver_vectors<S: Side>() -> (usize, usize, Vec<&'static str>) {
+/// The smaller windows in which a line of window 16 does the same.
+struct Same([(Window, bool); 2]);
+
+impl Same {
+    /// By the state that it starts with, and by what its messages do on the model.
+    fn of(line: &Json) -> Same {
+        let mut same = Same([(Window::Four, true), (Window::Eight, true)]);
+        let mut receiver = Receiver::of::<Model>(line, Window::Sixteen).expect("an image");
+        if interface::receiver_check(&receiver.state) != 0 {
+            return same;
+        }
+        for (window, same) in &mut same.0 {
+            let beyond = &receiver.state[8 + ROW_IMAGE * window.rows()..];
+            *same = beyond.iter().all(|&octet| octet == 0);
+        }
+        for call in line.at("calls").list() {
+            let frame = frame_of(call);
+            let place = call.at("place").unsigned();
+            let (state, pool) = (&mut receiver.state, &mut receiver.pool);
+            let mut output = vec![0; size(call.at("out_len"))];
+            let mut other = call.get("pool_len").map(|length| vec![0; size(length)]);
+            let pool = other.as_mut().unwrap_or(pool);
+            let result = &mut [0; 4];
+            interface::receive(state, pool, &frame, place, &mut output, result, &mut same);
+            let is_pool = |length: usize, window: &Window| length == window.pool();
+            for (window, same) in &mut same.0 {
+                *same &= !other
+                    .as_ref()
+                    .is_some_and(|pool| is_pool(pool.len(), window));
+            }
+        }
+        same
+    }
+}
+
+impl Observer for Same {
+    fn distance(&mut self, _: Window, case: Distance, difference: u32, number: u32) {
+        for (window, same) in &mut self.0 {
+            let row = Window::Sixteen.row_of(number) == window.row_of(number);
+            let meaning = case == Distance::First || window.distance(difference) == case;
+            // As many numbers enter, or all rows become Free.
+            let few = difference < window.number() || difference >= 16;
+            *same &= row && meaning && (case != Distance::New || few);
+        }
+    }
+}
+
+/// Lines and calls.
+#[derive(Debug, Default, PartialEq, Eq)]
+struct Ran {
+    lines: usize,
+    calls: usize,
+}
+
+impl Ran {
+    fn run<S: Side>(&mut self, line: &Json, receiver: Receiver, digests: &mut Digests) {
+        run_receiver::<S>(line, receiver, digests);
+        self.lines += 1;
+        self.calls += line.at("calls").list().len();
+    }
+}
+
+/// What was run in windows 4, 8 and 16, and the entries for which lines were left out.
+fn receiver_vectors<S: Side>() -> ([Ran; 3], Vec<&'static str>) {
     let mut digests = Digests::default();
-    let (mut ran, mut calls, mut left_out) = (0, 0, Vec::new());
+    let mut ran = <[Ran; 3]>::default();
+    let mut left_out = Vec::new();
     for line in lines("receiver.jsonl") {
         assert_eq!(line.at("kind").text(), "receiver");
-        let state = match line.at("state") {
-            Json::Text(text) => {
-                assert_eq!(text, "start");
-                let mut state = [0xa5; RECEIVER_IMAGE];
-                assert_eq!(S::receiver_start(Draft::D02, &mut state), 0);
-                state
+        match Receiver::of::<S>(&line, Window::Sixteen) {
+            Ok(receiver) => ran[2].run::<S>(&line, receiver, &mut digests),
+            Err(entry) => {
+                left_out.push(entry);
+                continue;
             }
-            state => match receiver_image(state) {
-                Ok(image) => image,
-                Err(entry) => {
-                    left_out.push(entry);
-                    continue;
-                }
-            },
-        };
-        run_receiver::<S>(&line, state, &mut digests);
-        ran += 1;
-        calls += line.at("calls").list().len();
+        }
+        for (ran, (window, same)) in ran.iter_mut().zip(Same::of(&line).0) {
+            if same {
+                let receiver = Receiver::of::<S>(&line, window).expect("an image");
+                ran.run::<S>(&line, receiver, &mut digests);
+            }
+        }
     }
-    (ran, calls, left_out)
+    (ran, left_out)
+}
+
+/// What was run in each window of the vectors that name theirs.
+fn window_vectors<S: Side>() -> [Ran; 3] {
+    let mut digests = Digests::default();
+    let mut ran = <[Ran; 3]>::default();
+    for line in lines("windows.jsonl") {
+        assert_eq!(line.at("kind").text(), "receiver");
+        let window = Window::of_number(line.at("window").unsigned() as u32).expect("a window");
+        let receiver = Receiver::of::<S>(&line, window).expect("an image");
+        let place = Window::ALL.iter().position(|&of| of == window);
+        ran[place.expect("a window")].run::<S>(&line, receiver, &mut digests);
+    }
+    ran
 }
 
 /// The image of a vector's state; all the sender's vectors can be held by it.
@@ -351,18 +460,37 @@ fn sender_vectors<S: Side>() -> (usize, usize) {
     (ran, calls)
 }
 
-#[test]
-fn receiver_model() {
-    let (ran, calls, left_out) = receiver_vectors::<Model>();
-    assert_eq!((ran, calls), (347, 5_587));
+/// Of 350 lines three have states that no image can hold.
+fn receiver_lines<S: Side>() {
+    let (ran, left_out) = receiver_vectors::<S>();
+    let counts = ran.map(|ran| (ran.lines, ran.calls));
+    assert_eq!(counts, [(97, 569), (141, 1_707), (347, 5_587)]);
     assert_eq!(left_out, ["length", "count", "index"]);
 }
 
 #[test]
+fn receiver_model() {
+    receiver_lines::<Model>();
+}
+
+#[test]
 fn receiver_exported() {
-    let (ran, calls, left_out) = receiver_vectors::<Exported>();
-    assert_eq!((ran, calls), (347, 5_587));
-    assert_eq!(left_out, ["length", "count", "index"]);
+    receiver_lines::<Exported>();
+}
+
+fn window_lines<S: Side>() {
+    let counts = window_vectors::<S>().map(|ran| (ran.lines, ran.calls));
+    assert_eq!(counts, [(29, 45), (26, 42), (20, 36)]);
+}
+
+#[test]
+fn windows_model() {
+    window_lines::<Model>();
+}
+
+#[test]
+fn windows_exported() {
+    window_lines::<Exported>();
 }
 
 #[test]
