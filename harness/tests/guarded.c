@@ -224,7 +224,8 @@ static void expect_goes_on(struct list list, size_t room, uint64_t frame, uint64
     if (next == list.count)
         expect(at == 0, "place behind all frames");
     else
-        expect(next < list.count && at < list.sizes[next] && full &&
+        /* Before a frame of 0 octets, which is refused, the place is 0. */
+        expect(next < list.count && (at == 0 || at < list.sizes[next]) && full &&
                    (next > frame || (next == frame && at > place)),
                "where the burst goes on");
 }
