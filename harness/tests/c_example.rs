@@ -61,7 +61,7 @@ fn calls_between_guard_pages() {
     let printed = run("harness/tests/guarded.c", "guarded", &["3", "1"]);
     print!("{printed}");
     let functions = printed.lines().filter(|line| line.starts_with("btpu_"));
-    assert_eq!(functions.count(), 14, "a line for each function");
+    assert_eq!(functions.count(), 15, "a line for each function");
     let calls = printed
         .lines()
         .find_map(|line| line.strip_suffix(" calls"))

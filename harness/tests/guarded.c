@@ -1,5 +1,6 @@
 /*
- * Generated calls of every function on memory between guard pages, with states of both drafts.
+ * Generated calls of every function on memory between guard pages, with states of both drafts and
+ * of every window.
  *
  * What is lent ends at a guard page or starts behind one; what is const is read only during the
  * call. After every call all that must have stayed is compared. For 60 seconds with seed 7, from
@@ -43,6 +44,11 @@ static enum draft any_draft(void)
     return once_in(2) ? DRAFT_00 : DRAFT_02;
 }
 
+static uint32_t any_window(void)
+{
+    return PICK(windows);
+}
+
 /* Of frames by hand for the receiver: mostly its own. */
 static enum draft draft_of_frames(void)
 {
@@ -84,15 +90,32 @@ static int receiver_is_sound(const uint8_t *image)
     return leave(btpu_receiver_check(areas[STATE].at)) == 0;
 }
 
-static void start_receiver(enum draft draft)
+/* A start of a draft with what may be a window; the answer is the refusal's number. */
+static uint32_t call_start(enum draft draft, uint32_t window)
 {
+    int plain = draft == DRAFT_02 && window == BTPU_PLAIN_WINDOW && once_in(2);
     lend_any(STATE, BTPU_RECEIVER_IMAGE);
-    enter(draft == DRAFT_00 ? RECEIVER_START_00 : RECEIVER_START);
-    leave(draft == DRAFT_00 ? btpu_receiver_start_00(areas[STATE].at)
-                            : btpu_receiver_start(areas[STATE].at));
+    uint8_t *state = areas[STATE].at;
+    enter(draft == DRAFT_00 ? RECEIVER_START_00 : plain ? RECEIVER_START : RECEIVER_START_WINDOW);
+    if (draft == DRAFT_00)
+        return leave(btpu_receiver_start_00(state, window));
+    return leave(plain ? btpu_receiver_start(state) : btpu_receiver_start_window(state, window));
+}
+
+static void start_receiver(enum draft draft, uint32_t window)
+{
+    expect(call_start(draft, window) == 0, "refused");
     memcpy(receiver, areas[STATE].at, sizeof receiver);
+    keep_pool(window);
     expect(receiver[BTPU_RECEIVER_DRAFT] == draft, "draft of a fresh state");
+    expect(receiver[BTPU_RECEIVER_WINDOW] == window, "window of a fresh state");
     expect(receiver_is_sound(receiver), "a fresh state is not sound");
+}
+
+/* The length of the pool that an image asks for. */
+static size_t pool_of(const uint8_t *image)
+{
+    return BTPU_POOL(image[BTPU_RECEIVER_WINDOW]);
 }
 
 static void expect_received(uint64_t place)
@@ -122,10 +145,12 @@ static uint32_t receive(uint8_t *image, int sound, const uint8_t *frame, size_t 
     enter(RECEIVE);
     uint32_t number = leave(btpu_receive(areas[STATE].at, pool->at, pool->length, areas[FRAME].at,
                                          length, place, output->at, output->length, to));
-    int room = pool->length == BTPU_POOL && output->length >= BTPU_MIN_OUTPUT;
+    int room = output->length >= BTPU_MIN_OUTPUT;
     int allowed = length != 0 && length <= BTPU_MAX_FRAME;
-    uint32_t first = !sound ? 1 : !room ? 2 : !allowed ? 3 : 0;
+    uint32_t first = !sound ? 1 : !room || pool->length != pool_of(image) ? 2 : !allowed ? 3 : 0;
     expect(first != 0 ? number == first : number == 0 || number > 3, "another refusal comes first");
+    if (number == BTPU_REFUSED_LENT && room)
+        count_pool(image[BTPU_RECEIVER_WINDOW], pool->length);
     if (number != 0)
         return number;
     expect_received(place);
@@ -173,12 +198,12 @@ struct list {
     size_t length;
 };
 
-static uint32_t refusal_of_burst(struct list list, int sound, size_t pool, size_t room)
+static uint32_t refusal_of_burst(struct list list, int sound, int pool_fits, size_t room)
 {
     size_t sum = 0;
     if (!sound)
         return BTPU_REFUSED_STATE;
-    if (pool != BTPU_POOL || room < BTPU_MIN_OUTPUT)
+    if (!pool_fits || room < BTPU_MIN_OUTPUT)
         return BTPU_REFUSED_LENT;
     if (list.count > BTPU_BURST_FRAMES)
         return BTPU_REFUSED_FRAME_LENGTH;
@@ -257,11 +282,14 @@ static uint32_t burst(uint8_t *image, int sound, struct list list, uint64_t fram
         areas[OCTETS].at, list.length, frame, place, output->at, output->length,
         LIST(uint16_t, LENGTHS), LIST(uint64_t, BUNDLE_NUMBERS), LIST(uint32_t, PLACES),
         LIST(uint32_t, REASONS), to));
-    uint32_t first = refusal_of_burst(list, sound, pool->length, output->length);
+    int pool_fits = pool->length == pool_of(image);
+    uint32_t first = refusal_of_burst(list, sound, pool_fits, output->length);
     int may_be_bad = first == 0 && (frame != 0 || place != 0);
     expect(number == first || (may_be_bad && number == BTPU_REFUSED_PLACE), "another refusal");
     expect(frame < list.count || number != 0 || (frame == list.count && place == 0),
            "a start behind all frames");
+    if (number == BTPU_REFUSED_LENT && output->length >= BTPU_MIN_OUTPUT)
+        count_pool(image[BTPU_RECEIVER_WINDOW], pool->length);
     if (number != 0)
         return number;
     expect_handed_out();
@@ -522,7 +550,7 @@ static uint32_t play(uint64_t limit, uint32_t opened, size_t wrong_once_in)
     size_t lengths_len = entries(BTPU_PLAYED_BUNDLES, wrong_once_in);
     size_t places_len = entries(BTPU_RECORDED_FRAMES, wrong_once_in);
     size_t reasons_len = entries(BTPU_RECORDED_FRAMES, wrong_once_in);
-    struct area *pool = lend_pool(wrong_once_in);
+    struct area *pool = lend_play_pool(wrong_once_in);
     lend_read_only(RECORDING, recording, recording_len);
     lend_any(LONG_OUTPUT, room);
     lend_any(LENGTHS, lengths_len * sizeof(uint16_t));
@@ -536,12 +564,14 @@ static uint32_t play(uint64_t limit, uint32_t opened, size_t wrong_once_in)
                                       places_len, LIST(uint32_t, REASONS), reasons_len, to));
     int little = room < BTPU_RECORDED_OCTETS || lengths_len < BTPU_PLAYED_BUNDLES ||
                  places_len < BTPU_RECORDED_FRAMES || reasons_len < BTPU_RECORDED_FRAMES;
-    uint32_t first = opened != 0 ? opened : pool->length != BTPU_POOL ? 2 : little ? 24 : 0;
+    int pool_fits = pool->length == BTPU_POOL(BTPU_PLAY_WINDOW);
+    uint32_t first = opened != 0 ? opened : !pool_fits ? 2 : little ? 24 : 0;
     expect(number == first, "another refusal");
+    if (number == BTPU_REFUSED_LENT)
+        count_pool(BTPU_PLAY_WINDOW, pool->length);
     if (number != 0)
         return number;
     expect_played(limit);
-    memcpy(pool->before, pool->start, pool->room);
     return 0;
 }
 
@@ -593,7 +623,7 @@ static size_t put_message(uint8_t *to, size_t room, uint32_t first_number, enum 
 
 static void damage(uint8_t *to, size_t length)
 {
-    static const uint8_t values[] = {0, 1, 2, 63, 64, 128, 255};
+    static const uint8_t values[] = {0, 1, 2, 4, 8, 16, 63, 64, 128, 255};
     for (size_t times = within(1, 3); times > 0 && length > 0; times--) {
         size_t at = below(once_in(2) && length > 16 ? 16 : length);
         to[at] = once_in(2) ? PICK(values) : (uint8_t)draw();
@@ -632,18 +662,18 @@ static void send_bundles(enum draft draft, size_t size)
 }
 
 /* All frames that were kept arrive at a fresh receiver, frame by frame. */
-static void take_singly(enum draft draft)
+static void take_singly(enum draft draft, uint32_t window)
 {
     arrived.count = arrived.octets = 0;
-    start_receiver(draft);
+    start_receiver(draft, window);
     for (size_t k = 0, at = 0; k < frames; at += sizes[k++])
         take(octets + at, sizes[k], &arrived);
 }
 
-/* A playback hands out what a receiver of draft 02 does, also of frames of draft 00. */
+/* A playback hands out what a receiver of draft 02 and window 16 does, also of frames of draft 00. */
 static void expect_played_as_taken(void)
 {
-    take_singly(DRAFT_02);
+    take_singly(DRAFT_02, BTPU_PLAY_WINDOW);
     expect(record(frames, octets_len, 8 + 2 * frames + octets_len) == 0, "refused");
     expect(open_recording() == 0 && result(BTPU_OPENED_FRAMES) == frames &&
                memcmp(areas[SIZES].at, sizes, frames * sizeof sizes[0]) == 0,
@@ -661,16 +691,16 @@ static void round_of_link(void)
     size_t size = once_in(2) ? PICK(edges) : within(128, 2048);
     enum draft draft = any_draft();
     send_bundles(draft, size);
-    take_singly(draft);
+    take_singly(draft, any_window());
     expect_bundles(&placed, arrived.lengths, arrived.count, arrived.joined, arrived.octets);
     arrived.count = arrived.octets = 0;
-    start_receiver(draft);
+    start_receiver(draft, any_window());
     take_frames(&arrived);
     expect_bundles(&placed, arrived.lengths, arrived.count, arrived.joined, arrived.octets);
     expect_played_as_taken();
     if (draft == DRAFT_02)
         expect_bundles(&placed, arrived.lengths, arrived.count, arrived.joined, arrived.octets);
-    start_receiver(draft);
+    start_receiver(draft, any_window());
     for (size_t n = 0; n < frames; n++) {
         size_t k = below(frames);
         memcpy(frame, octets + k * size, size);
@@ -688,7 +718,7 @@ static void round_of_frames(void)
     static uint32_t first_number;
     if (once_in(8)) {
         first_number = (uint32_t)draw();
-        start_receiver(any_draft());
+        start_receiver(any_draft(), any_window());
     }
     for (size_t n = within(1, 12); n > 0; n--) {
         size_t length = make_frame(frame, first_number, draft_of_frames());
@@ -747,7 +777,17 @@ static void round_of_images(void)
     send(PICK(sending), other, sound, bundle, bundle_length, size);
 }
 
-/* Frame sizes that are refused; then a sender that may be in the middle of a bundle. */
+/* What is no window is refused, also what would be one if it were cut to fewer bits. */
+static void refuse_windows(void)
+{
+    static const uint32_t none[] = {0, 1, 3, 5, 7, 9, 15, 17, 32, 255, 256 + 8, 65536 + 16,
+                                    UINT32_C(8) << 24, UINT32_MAX};
+    uint32_t window = once_in(8) ? (uint32_t)draw() : PICK(none);
+    uint32_t number = call_start(any_draft(), window);
+    expect((number == BTPU_REFUSED_WINDOW) == (place_of(window) == WINDOWS), "window of a start");
+}
+
+/* Windows and frame sizes that are refused; then a sender that may be in the middle of a bundle. */
 static void round_of_starts(void)
 {
     static const uint64_t outside[] = {0, 1, 127, 2049, 65536 + 512, (UINT64_C(1) << 32) + 512,
@@ -755,6 +795,7 @@ static void round_of_starts(void)
     uint32_t first_number = (uint32_t)draw();
     size_t length = within(1, 4096);
     frames = octets_len = 0;
+    refuse_windows();
     start_sender(any_draft(), PICK(outside), first_number);
     start_sender(any_draft(), within(128, 2048), first_number);
     for (size_t n = below(4); n > 0; n--)
@@ -808,7 +849,7 @@ int main(int count, char **arguments)
     seed = count > 2 ? strtoull(arguments[2], NULL, 10) : 1;
     random_state = seed;
     reserve_areas();
-    start_receiver(DRAFT_02);
+    start_receiver(DRAFT_02, BTPU_PLAIN_WINDOW);
     round_of_starts();
     for (size_t n = 0; n < LEAST_ROUNDS || seconds_now() < end; n++)
         PICK(rounds)();

@@ -21,12 +21,15 @@
 /* As an image says it. */
 enum draft { DRAFT_02, DRAFT_00, DRAFTS };
 
+#define WINDOWS 3
+static const uint32_t windows[WINDOWS] = {4, 8, BTPU_MAX_WINDOW};
+
 enum function {
-    RECEIVER_START, RECEIVER_START_00, RECEIVER_CHECK, RECEIVE, RECEIVE_BURST, SENDER_START,
+    RECEIVER_START, RECEIVER_START_WINDOW, RECEIVER_START_00, RECEIVER_CHECK, RECEIVE, RECEIVE_BURST, SENDER_START,
     SENDER_START_00, SENDER_CHECK, PLACE, CANCEL, FLUSH, RECORD, RECORDING_OPEN, PLAY, FUNCTIONS
 };
 
-/* What is lent. A pool of the right length has an area of its own, and stays where it is. */
+/* What is lent. The receiver's own pool has an area of its own, and stays where it is. */
 enum lent {
     STATE, POOL, OTHER_POOL, FRAME, OUTPUT, LONG_OUTPUT, BUNDLE, FRAME_BUFFER, SIZES, OCTETS,
     RECORDING, LENGTHS, BUNDLE_NUMBERS, PLACES, REASONS, RESULT, AREAS
@@ -37,36 +40,38 @@ enum lent {
 #define OLD BIT(DRAFT_00)
 #define BY_IMAGE (NEW | OLD)
 
-/* The refusals that the header lists, what comes with a length and so may be NULL, the drafts, and
-   where the image says its draft. */
+/* The refusals that the header lists, what comes with a length and so may be NULL, the drafts, where
+   the image says its draft, and whether the image that is left says a window. */
 static const struct {
     const char *name;
     uint32_t refusals, lengths, drafts;
     size_t draft_at;
+    int windowed;
 } functions[FUNCTIONS] = {
-    {"btpu_receiver_start", 0, 0, NEW, 0},
-    {"btpu_receiver_start_00", 0, 0, OLD, 0},
-    {"btpu_receiver_check", BIT(1), 0, BY_IMAGE, BTPU_RECEIVER_DRAFT},
+    {"btpu_receiver_start", 0, 0, NEW, 0, 0},
+    {"btpu_receiver_start_window", BIT(21), 0, NEW, 0, 1},
+    {"btpu_receiver_start_00", BIT(21), 0, OLD, 0, 1},
+    {"btpu_receiver_check", BIT(1), 0, BY_IMAGE, BTPU_RECEIVER_DRAFT, 1},
     {"btpu_receive", BIT(1) | BIT(2) | BIT(3) | BIT(4) | BIT(6) | BIT(7) | BIT(8) | BIT(9),
-     BIT(OTHER_POOL) | BIT(FRAME) | BIT(OUTPUT), BY_IMAGE, BTPU_RECEIVER_DRAFT},
+     BIT(OTHER_POOL) | BIT(FRAME) | BIT(OUTPUT), BY_IMAGE, BTPU_RECEIVER_DRAFT, 1},
     {"btpu_receive_burst", BIT(1) | BIT(2) | BIT(3) | BIT(9) | BIT(19),
      BIT(OTHER_POOL) | BIT(SIZES) | BIT(OCTETS) | BIT(LONG_OUTPUT), BY_IMAGE,
-     BTPU_RECEIVER_DRAFT},
-    {"btpu_sender_start", BIT(14), 0, NEW, 0},
-    {"btpu_sender_start_00", BIT(14), 0, OLD, 0},
-    {"btpu_sender_check", BIT(1), 0, BY_IMAGE, BTPU_SENDER_DRAFT},
+     BTPU_RECEIVER_DRAFT, 1},
+    {"btpu_sender_start", BIT(14), 0, NEW, 0, 0},
+    {"btpu_sender_start_00", BIT(14), 0, OLD, 0, 0},
+    {"btpu_sender_check", BIT(1), 0, BY_IMAGE, BTPU_SENDER_DRAFT, 0},
     {"btpu_place", BIT(1) | BIT(10) | BIT(11) | BIT(12), BIT(BUNDLE) | BIT(FRAME_BUFFER),
-     BY_IMAGE, BTPU_SENDER_DRAFT},
-    {"btpu_cancel", BIT(1) | BIT(10) | BIT(13), BIT(FRAME_BUFFER), BY_IMAGE, BTPU_SENDER_DRAFT},
-    {"btpu_flush", BIT(1) | BIT(10), BIT(FRAME_BUFFER), BY_IMAGE, BTPU_SENDER_DRAFT},
+     BY_IMAGE, BTPU_SENDER_DRAFT, 0},
+    {"btpu_cancel", BIT(1) | BIT(10) | BIT(13), BIT(FRAME_BUFFER), BY_IMAGE, BTPU_SENDER_DRAFT, 0},
+    {"btpu_flush", BIT(1) | BIT(10), BIT(FRAME_BUFFER), BY_IMAGE, BTPU_SENDER_DRAFT, 0},
     {"btpu_record", BIT(17) | BIT(18) | BIT(19) | BIT(24),
-     BIT(SIZES) | BIT(OCTETS) | BIT(LONG_OUTPUT), NEW, 0},
+     BIT(SIZES) | BIT(OCTETS) | BIT(LONG_OUTPUT), NEW, 0, 0},
     {"btpu_recording_open", BIT(16) | BIT(17) | BIT(18) | BIT(19) | BIT(20), BIT(RECORDING), NEW,
-     0},
+     0, 0},
     {"btpu_play", BIT(2) | BIT(16) | BIT(17) | BIT(18) | BIT(19) | BIT(20) | BIT(24),
      BIT(RECORDING) | BIT(OTHER_POOL) | BIT(LONG_OUTPUT) | BIT(LENGTHS) | BIT(PLACES) |
          BIT(REASONS),
-     NEW, 0},
+     NEW, 0, 0},
 };
 
 struct area {
@@ -81,8 +86,8 @@ struct area {
 
 static struct area areas[AREAS] = {
     {.name = "state", .room = PAGE},
-    {.name = "pool", .room = BTPU_POOL},
-    {.name = "pool of another length", .room = BTPU_POOL + PAGE},
+    {.name = "pool", .room = BTPU_POOL(BTPU_MAX_WINDOW)},
+    {.name = "pool of another length", .room = BTPU_POOL(BTPU_MAX_WINDOW) + PAGE},
     {.name = "frame", .room = 2 * PAGE},
     {.name = "output", .room = 2 * PAGE},
     {.name = "output", .room = 17 * PAGE},
@@ -103,6 +108,8 @@ static enum draft draft_now; /* of the state that it is called with */
 static uint64_t seed, calls;
 static uint32_t refused_at; /* the place of the last call's refusal */
 static uint64_t reached[DRAFTS][FUNCTIONS][NUMBERS]; /* by refusal; entry 0: carried out */
+static uint64_t carried_out[DRAFTS][FUNCTIONS][WINDOWS]; /* by the window that the image says */
+static uint64_t pools_refused[FUNCTIONS][WINDOWS][WINDOWS]; /* and by the window of the pool */
 static uint32_t null_lent[FUNCTIONS];
 static uint8_t noise[NOISE];
 
@@ -242,19 +249,52 @@ static void lend_any(enum lent what, size_t length)
     lend(what, any_octets(length), length);
 }
 
+/* The place of a window in the list, or WINDOWS for what is none. */
+static size_t place_of(uint32_t window)
+{
+    size_t k = 0;
+    while (k < WINDOWS && windows[k] != window)
+        k++;
+    return k;
+}
+
+/* The pool of a fresh receiver: of its window's length, at either end of the area, of any octets. */
+static void keep_pool(uint32_t window)
+{
+    lend_any(POOL, BTPU_POOL(window));
+    areas[POOL].is_lent = 0;
+}
+
+/* The length of another pool, half the time that of another window. */
+static size_t other_length(size_t right)
+{
+    size_t length = right;
+    while (length == right) {
+        size_t pool = BTPU_POOL(PICK(windows));
+        const size_t wrong[] = {0, 0, 1, 4096, pool - 1, pool + 1};
+        length = once_in(2) ? pool : PICK(wrong);
+    }
+    return length;
+}
+
 /* Lends a pool: the one that is kept or, once in so many times, one of another length. */
 static struct area *lend_pool(size_t wrong_once_in)
 {
-    static const size_t wrong[] = {0, 0, 1, 4096, BTPU_POOL - 1, BTPU_POOL + 1};
     struct area *pool = &areas[POOL];
     if (once_in(wrong_once_in)) {
-        lend_any(OTHER_POOL, PICK(wrong));
+        lend_any(OTHER_POOL, other_length(pool->length));
         return &areas[OTHER_POOL];
     }
-    pool->at = pool->start;
-    pool->length = pool->room;
     pool->is_lent = 1;
     return pool;
+}
+
+/* Lends a pool for a playback, of any octets; once in so many times one of another length. */
+static struct area *lend_play_pool(size_t wrong_once_in)
+{
+    size_t right = BTPU_POOL(BTPU_PLAY_WINDOW);
+    lend_any(OTHER_POOL, once_in(wrong_once_in) ? other_length(right) : right);
+    return &areas[OTHER_POOL];
 }
 
 static void expect_same(const struct area *area, size_t from, size_t to)
@@ -344,17 +384,46 @@ static uint32_t leave(uint32_t returned)
     else
         expect(refused_at == 0, "place without a bad message");
     reached[draft_now][now][number]++;
+    if (functions[now].windowed && number == 0) {
+        size_t window = place_of(areas[STATE].at[BTPU_RECEIVER_WINDOW]);
+        expect(window < WINDOWS, "no window in a state that is not refused");
+        carried_out[draft_now][now][window]++;
+    }
     return number;
+}
+
+/* Counts a call on a state of a window that was refused for a pool of this length. */
+static void count_pool(uint32_t window, size_t length)
+{
+    for (size_t k = 0; k < WINDOWS; k++)
+        if (BTPU_POOL(windows[k]) == length)
+            pools_refused[now][place_of(window)][k]++;
 }
 
 /* ---- what was reached */
 
+/* Each call that takes a pool was refused for that of each other window; a playback has one. */
+static void expect_pools_refused(void)
+{
+    for (size_t window = 0; window < WINDOWS; window++) {
+        if (now == PLAY && windows[window] != BTPU_PLAY_WINDOW)
+            continue;
+        for (size_t other = 0; other < WINDOWS; other++)
+            expect((pools_refused[now][window][other] == 0) == (other == window),
+                   "the pool of a window");
+    }
+}
+
 static void expect_reached(void)
 {
+    if (now == RECEIVE || now == RECEIVE_BURST || now == PLAY)
+        expect_pools_refused();
     for (draft_now = DRAFT_02; draft_now < DRAFTS; draft_now++) {
         if ((functions[now].drafts & BIT(draft_now)) == 0)
             continue;
         expect(reached[draft_now][now][0] != 0, "never carried out");
+        for (size_t k = 0; functions[now].windowed && k < WINDOWS; k++)
+            expect(carried_out[draft_now][now][k] != 0, "never carried out with a window");
         for (uint32_t number = 1; number < NUMBERS; number++)
             expect((listed(now, draft_now) & BIT(number)) == 0 ||
                        reached[draft_now][now][number] != 0,
@@ -365,7 +434,7 @@ static void expect_reached(void)
             fail("NULL was not reached for the", areas[k].name);
 }
 
-/* Prints a function's calls, by draft where the image says it. */
+/* Prints a function's calls, by draft where the image says it, and those carried out by window. */
 static void report_draft(enum draft draft)
 {
     const uint64_t *counts = reached[draft][now];
@@ -378,6 +447,9 @@ static void report_draft(enum draft draft)
     for (uint32_t number = 1; number < NUMBERS; number++)
         if ((listed(now, draft) & BIT(number)) != 0)
             printf(" %u: %llu", (unsigned)number, (unsigned long long)counts[number]);
+    for (size_t k = 0; functions[now].windowed && k < WINDOWS; k++)
+        printf(", window %u: %llu", (unsigned)windows[k],
+               (unsigned long long)carried_out[draft][now][k]);
     printf(";");
 }
 

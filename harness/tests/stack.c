@@ -16,9 +16,11 @@
 
 static uint8_t board[BTPU_RECEIVER_IMAGE];
 static uint8_t board_00[BTPU_RECEIVER_IMAGE];
+static uint8_t small_board[BTPU_RECEIVER_IMAGE];
 static uint8_t sender[BTPU_SENDER_IMAGE];
 static uint8_t sender_00[BTPU_SENDER_IMAGE];
-static uint8_t pool[BTPU_POOL];
+static uint8_t pool[BTPU_POOL(BTPU_MAX_WINDOW)];
+static uint8_t small_pool[BTPU_POOL(BTPU_PLAIN_WINDOW)];
 static uint8_t frame[FRAME_SIZE];
 static uint8_t bundle[BTPU_MAX_BUNDLE];
 static uint8_t joined[BTPU_RECORDED_OCTETS];
@@ -59,13 +61,19 @@ static void add_hints(uint8_t last)
 
 static void *start_receiver(void *unused)
 {
-    expect(btpu_receiver_start(board) == 0, "receiver_start");
+    expect(btpu_receiver_start(small_board) == 0, "receiver_start");
+    return unused;
+}
+
+static void *start_receiver_window(void *unused)
+{
+    expect(btpu_receiver_start_window(board, BTPU_MAX_WINDOW) == 0, "receiver_start_window");
     return unused;
 }
 
 static void *start_receiver_00(void *unused)
 {
-    expect(btpu_receiver_start_00(board_00) == 0, "receiver_start_00");
+    expect(btpu_receiver_start_00(board_00, BTPU_MAX_WINDOW) == 0, "receiver_start_00");
     return unused;
 }
 
@@ -75,13 +83,13 @@ static void *check_receiver(void *unused)
     return unused;
 }
 
-static void *receive(void *unused)
+static void receive_with(uint8_t *state, uint8_t *lent, size_t lent_len)
 {
     size_t at = 0, bundles = 0, refused = 0;
     for (size_t k = 0; k < frames; at += sizes[k++]) {
         uint64_t next = 0;
         for (;;) {
-            if (btpu_receive(board, pool, sizeof pool, joined + at, sizes[k], next, output,
+            if (btpu_receive(state, lent, lent_len, joined + at, sizes[k], next, output,
                              sizeof output, result) != 0) {
                 refused++;
                 break;
@@ -93,6 +101,17 @@ static void *receive(void *unused)
         }
     }
     expect(bundles == BUNDLES && refused == REFUSED, "what was received");
+}
+
+static void *receive(void *unused)
+{
+    receive_with(board, pool, sizeof pool);
+    return unused;
+}
+
+static void *receive_small(void *unused)
+{
+    receive_with(small_board, small_pool, sizeof small_pool);
     return unused;
 }
 
@@ -122,7 +141,7 @@ static void *receive_00(void *unused)
 static void *receive_burst(void *unused)
 {
     static uint64_t numbers[BTPU_BURST_BUNDLES], taken[BTPU_BURST_RESULT];
-    expect(btpu_receiver_start(board) == 0, "receiver_start");
+    expect(btpu_receiver_start_window(board, BTPU_MAX_WINDOW) == 0, "receiver_start_window");
     expect(btpu_receive_burst(board, pool, sizeof pool, sizes, frames, joined, joined_len, 0, 0,
                               output, sizeof output, lengths, numbers, places, reasons,
                               taken) == 0,
@@ -240,7 +259,9 @@ int main(void)
         void *(*body)(void *);
         size_t most;
     } calls[] = {
-        {"receiver_start", start_receiver, BTPU_STACK}, {"receive", receive, BTPU_STACK},
+        {"receiver_start", start_receiver, BTPU_STACK},
+        {"receiver_start_window", start_receiver_window, BTPU_STACK},
+        {"receive, window 8", receive_small, BTPU_STACK}, {"receive", receive, BTPU_STACK},
         {"receiver_check", check_receiver, BTPU_STACK}, {"receive_burst", receive_burst, BTPU_STACK},
         {"receiver_start_00", start_receiver_00, BTPU_STACK},
         {"receive, draft 00", receive_00, BTPU_STACK},
