@@ -8,6 +8,9 @@ export type Source = string | URL | Response | BufferSource | WebAssembly.Module
 /** A draft of the protocol: draft-ietf-dtn-btpu-00 or draft-ietf-dtn-btpu-02. */
 export type Draft = '00' | '02';
 
+/** How many transfers a receiver's window has. */
+export type WindowSize = 4 | 8 | 16;
+
 /** A bundle handed out. */
 export interface Bundle {
   /** Its transfer number; null if it came in one message, outside of any transfer. */
@@ -37,7 +40,7 @@ export type Phase = 'free' | 'open' | 'done' | 'cancelled' | 'given up';
 
 /** What a receiver knows of one transfer. */
 export interface Row {
-  /** Its place in the window: the transfer number modulo 16. */
+  /** Its place in the window: the transfer number modulo the number of rows. */
   row: number;
   /** The transfer that the row stands for; null as long as no transfer number is known. */
   number: number | null;
@@ -51,6 +54,7 @@ export interface Row {
 export interface Window {
   /** The greatest transfer number so far. */
   greatest: number | null;
+  /** As many as the window has: 4, 8 or 16. */
   rows: Row[];
 }
 
@@ -77,6 +81,8 @@ export interface SavedSender {
 export interface ReceiverStart {
   /** '02' if not given. */
   draft?: Draft;
+  /** 8 if not given. */
+  window?: WindowSize;
 }
 
 export interface SenderStart {
@@ -91,7 +97,10 @@ export interface SenderStart {
 export const SIZES: Readonly<{
   receiverImage: 3144;
   senderImage: 24;
-  pool: 65536;
+  poolPerRow: 4096;
+  plainWindow: 8;
+  maxWindow: 16;
+  playWindow: 16;
   output: 4096;
   bundle: 4096;
   frame: 2048;
@@ -127,6 +136,7 @@ export class Receiver {
   constructor(instance: WebAssembly.Instance, start?: ReceiverStart);
   get broken(): boolean;
   get draft(): Draft;
+  get windowSize(): WindowSize;
   restart(): void;
   receive(frame: Octets): { bundles: Bundle[]; refusal: Refusal | null };
   receiveAll(frames: Iterable<Octets>): Received;

@@ -9,27 +9,34 @@
  *     const all = receiver.receiveAll(frames);                // the same for many frames, in fewer calls of the module
  *
  * Receivers and senders are of draft 02 of the protocol, or of draft 00 where they are made with `draft: '00'`. A frame does not say of
- * which draft it is: a receiver takes every frame for one of its own.
+ * which draft it is: a receiver takes every frame for one of its own. A receiver has a window of 8 transfers, or of 4 or 16 where it is
+ * made with `window`. A smaller one takes less memory; in return a transfer is lost as soon as it is so many numbers behind the greatest.
  *
- * Each receiver and each sender has an instance of the module, and so memory, of its own: a trap in one touches no other. The
- * module imports nothing and its memory never grows, so no call comes back into this file and no view of the memory goes stale.
+ * Each receiver and each sender has an instance of the module, and so memory, of its own: a trap in one touches no other. The module
+ * imports nothing, so no call comes back into this file. Its memory grows by what is lent to it, and in no call.
  * @module
  */
 
 /** @typedef {import('./btpu.mjs').Octets} Octets */
 /** @typedef {import('./btpu.mjs').Source} Source */
 /** @typedef {import('./btpu.mjs').Draft} Draft */
+/** @typedef {import('./btpu.mjs').WindowSize} WindowSize */
 /** @typedef {import('./btpu.mjs').ReceiverStart} ReceiverStart */
 /** @typedef {import('./btpu.mjs').SenderStart} SenderStart */
 /** @typedef {import('./btpu.mjs').Bundle} Bundle */
 /** @typedef {import('./btpu.mjs').Refusal} Refusal */
-/** @typedef {{ at: number, octets: Uint8Array, pointer: number | bigint }} Lent octets of the module's memory */
+/** @typedef {{ at: number, size: number, octets: Uint8Array, pointer: number | bigint }} Lent octets of the module's memory */
 
-/** Sizes in octets, and of lists in entries, as in btpu.h. */
+/** Sizes in octets, of lists in entries and of windows in transfers, as in btpu.h. */
 export const SIZES = Object.freeze({
   receiverImage: 3144,
   senderImage: 24,
-  pool: 65536,
+  /** Of the pool, for each transfer of the window. */
+  poolPerRow: 4096,
+  /** The window of a receiver that is made with none, the greatest, and that of a playback. */
+  plainWindow: 8,
+  maxWindow: 16,
+  playWindow: 16,
   output: 4096,
   bundle: 4096,
   frame: 2048,
@@ -42,12 +49,13 @@ export const SIZES = Object.freeze({
 });
 
 const EXPORTS = [
-  'btpu_receiver_start', 'btpu_receiver_start_00', 'btpu_receiver_check', 'btpu_receive', 'btpu_receive_burst',
-  'btpu_sender_start', 'btpu_sender_start_00', 'btpu_sender_check', 'btpu_place', 'btpu_cancel', 'btpu_flush',
+  'btpu_receiver_start', 'btpu_receiver_start_window', 'btpu_receiver_start_00', 'btpu_receiver_check', 'btpu_receive',
+  'btpu_receive_burst', 'btpu_sender_start', 'btpu_sender_start_00', 'btpu_sender_check', 'btpu_place', 'btpu_cancel', 'btpu_flush',
   'btpu_record', 'btpu_recording_open', 'btpu_play',
 ];
-/** The octets of the images that tell the draft: 1 for draft 00, 0 for draft 02. */
-const RECEIVER_DRAFT = 2, SENDER_DRAFT = 9;
+/** The octet of a receiver's image that tells the window; those that tell the draft: 1 for draft 00, 0 for draft 02. */
+const RECEIVER_WINDOW = 1, RECEIVER_DRAFT = 2, SENDER_DRAFT = 9;
+const PAGE = 65536;
 const FINISHED = 0;
 const NO_NUMBER = 2 ** 32;
 const PLACED = 0, PLACED_AND_READY = 1, READY = 2;
@@ -59,7 +67,7 @@ const RESULT = 40;
 /** @type {Readonly<Record<number, string>>} */
 const WORDS = Object.freeze({
   1: 'not a sound state',
-  2: 'pool not 65,536 octets, or output below 4,096',
+  2: 'pool not 4,096 octets times the window, or output below 4,096',
   3: 'frame of 0 or more than 2,048 octets',
   4: 'fewer than 4 octets left for a header',
   5: 'reserved flag bits',
@@ -77,6 +85,7 @@ const WORDS = Object.freeze({
   18: "a frame's length outside 1 to 2,048",
   19: 'the octets are not the sum of the lengths',
   20: 'octets behind the recording',
+  21: 'window not 4, 8 or 16',
   24: 'output too short',
 });
 
@@ -158,6 +167,12 @@ export async function load(source) {
 /** @param {Source} [source] */
 const instantiate = async (source) => WebAssembly.instantiate(await load(source));
 
+/** The functions that start a receiver, with a window, or a sender, by draft. */
+const STARTS = {
+  receiver: { '00': 'btpu_receiver_start_00', '02': 'btpu_receiver_start_window' },
+  sender: { '00': 'btpu_sender_start_00', '02': 'btpu_sender_start' },
+};
+
 /**
  * The name of the function that starts a receiver or a sender of a draft.
  * @param {'receiver' | 'sender'} which
@@ -165,7 +180,7 @@ const instantiate = async (source) => WebAssembly.instantiate(await load(source)
  */
 function startOf(which, draft) {
   if (draft !== '00' && draft !== '02') throw new RangeError("a draft is '00' or '02'");
-  return `btpu_${which}_start${draft === '00' ? '_00' : ''}`;
+  return STARTS[which][draft];
 }
 
 /**
@@ -196,18 +211,22 @@ function octetsOf(value, what) {
 }
 
 /**
- * Parts of what was saved, of known lengths.
+ * Parts of what was saved.
  * @param {unknown} saved
- * @param {Record<string, number>} lengths
+ * @param {string[]} names
  */
-function partsOf(saved, lengths) {
-  const names = Object.keys(lengths).join(' and ');
-  if (saved === null || typeof saved !== 'object') throw new TypeError(`what was saved is an object with ${names}`);
-  return Object.entries(lengths).map(([name, length]) => {
-    const octets = octetsOf(/** @type {Record<string, unknown>} */ (saved)[name], name);
-    if (octets.length !== length) throw new RangeError(`${name} has ${octets.length} octets, not ${length}`);
-    return octets;
-  });
+function partsOf(saved, names) {
+  if (saved === null || typeof saved !== 'object') throw new TypeError(`what was saved is an object with ${names.join(' and ')}`);
+  return names.map((name) => octetsOf(/** @type {Record<string, unknown>} */ (saved)[name], name));
+}
+
+/**
+ * @param {Uint8Array} octets
+ * @param {number} length
+ * @param {string} what
+ */
+function hasLength(octets, length, what) {
+  if (octets.length !== length) throw new RangeError(`${what} has ${octets.length} octets, not ${length}`);
 }
 
 /**
@@ -243,7 +262,8 @@ const bundleOf = (number, octets) => ({ number: number === NO_NUMBER ? null : nu
 /** One instance of the module and the memory that it is lent. */
 class Machine {
   /** @type {Record<string, any>} */ #exports;
-  /** @type {ArrayBuffer} */ #memory;
+  /** @type {WebAssembly.Memory} */ #memory;
+  /** @type {Lent[]} */ #lent = [];
   /** @type {number} */ #free;
   /** @type {(address: number) => number | bigint} */ #pointer;
   /** @type {unknown} */ #trap = null;
@@ -253,8 +273,8 @@ class Machine {
   /** @param {WebAssembly.Instance} instance */
   constructor(instance) {
     this.#exports = instance.exports;
-    this.#memory = this.#exports.memory.buffer;
-    this.view = new DataView(this.#memory);
+    this.#memory = this.#exports.memory;
+    this.view = new DataView(this.#memory.buffer);
     const base = this.#exports.__heap_base.value;
     this.#pointer = typeof base === 'bigint' ? BigInt : Number; // of a wasm64 module addresses are BigInt
     this.#free = Number(base);
@@ -262,15 +282,33 @@ class Machine {
   }
 
   /**
-   * Lends octets that nothing else uses, above the module's stack and data, aligned to 16.
+   * Lends octets that nothing else uses, above the module's stack and data, aligned to 16. The memory grows where they need it.
    * @param {number} size
    * @returns {Lent}
    */
   lend(size) {
-    const at = (this.#free + 15) & ~15;
-    if (at + size > this.#memory.byteLength) throw new RangeError(`the module's memory of ${this.#memory.byteLength} octets is too small`);
+    const at = (this.#free + 15) & ~15, lacking = at + size - this.#memory.buffer.byteLength;
+    if (lacking > 0) this.#grow(Math.ceil(lacking / PAGE));
+    const lent = { at, size, octets: new Uint8Array(this.#memory.buffer, at, size), pointer: this.#pointer(at) };
     this.#free = at + size;
-    return { at, octets: new Uint8Array(this.#memory, at, size), pointer: this.#pointer(at) };
+    this.#lent.push(lent);
+    return lent;
+  }
+
+  /**
+   * Makes the memory longer, and anew the views of it, which that ends.
+   * @param {number} pages
+   */
+  #grow(pages) {
+    try {
+      this.#memory.grow(/** @type {number} */ (this.#pointer(pages)));
+    } catch (e) {
+      // Before memories with 64-bit addresses had their final form, they took a Number too.
+      if (!(e instanceof TypeError)) throw new RangeError(`the module's memory can't grow by ${pages * PAGE} octets`, { cause: e });
+      this.#memory.grow(pages);
+    }
+    this.view = new DataView(this.#memory.buffer);
+    for (const lent of this.#lent) lent.octets = new Uint8Array(this.#memory.buffer, lent.at, lent.size);
   }
 
   /**
@@ -349,20 +387,21 @@ class Machine {
 const PHASES = /** @type {const} */ (['free', 'open', 'done', 'cancelled', 'given up']);
 
 /**
- * The window of a receiver's image: the greatest number and the 16 rows. The image is taken to be a sound one.
+ * The window of a receiver's image: the greatest number, and as many rows as the window has. The image is taken to be a sound one.
  * @param {Uint8Array} image
  * @returns {import('./btpu.mjs').Window}
  */
 export function readWindow(image) {
   if (image.length !== SIZES.receiverImage) throw new RangeError(`an image has ${SIZES.receiverImage} octets`);
-  const view = new DataView(image.buffer, image.byteOffset, image.byteLength);
+  const view = new DataView(image.buffer, image.byteOffset, image.byteLength), size = image[RECEIVER_WINDOW];
+  if (![4, 8, 16].includes(size)) throw new RangeError('the window of an image is 4, 8 or 16');
   const greatest = image[0] === 1 ? view.getUint32(4) : null;
-  const rows = Array.from({ length: 16 }, (_, row) => {
+  const rows = Array.from({ length: size }, (_, row) => {
     const at = 8 + 196 * row;
     return {
       row,
-      // of the 16 numbers up to the greatest, the one with this row
-      number: greatest === null ? null : (greatest - ((greatest - row) & 15)) >>> 0,
+      // of the numbers of the window, the one with this row: sizes are powers of 2
+      number: greatest === null ? null : (greatest - ((greatest - row) & (size - 1))) >>> 0,
       phase: PHASES[image[at]],
       last: image[at + 1] === 1 ? image[at + 2] : null,
       pieces: Array.from({ length: image[at + 3] }, (_, k) => ({ index: image[at + 4 + k], length: view.getUint16(at + 68 + 2 * k) })),
@@ -378,7 +417,11 @@ export class Receiver {
   /** @type {Lent} */ #pool;
   /** @type {Lent} */ #frame;
   /** @type {Lent} */ #output;
-  /** @type {Record<'sizes' | 'octets' | 'output' | 'lengths' | 'numbers' | 'places' | 'reasons', Lent>} */ #burst;
+  /**
+   * What bursts are lent besides, from the first one on.
+   * @type {Record<'sizes' | 'octets' | 'output' | 'lengths' | 'numbers' | 'places' | 'reasons', Lent> | null}
+   */
+  #burst = null;
 
   /**
    * @param {ReceiverStart | Source} [start] what the receiver is set to; may be left out before a source
@@ -387,7 +430,7 @@ export class Receiver {
    */
   static async create(start = {}, source) {
     if (isStart(start)) return new Receiver(await instantiate(source), start);
-    if (source !== undefined) throw new TypeError("what stands before the source is an object, as { draft: '00' }");
+    if (source !== undefined) throw new TypeError("what stands before the source is an object, as { draft: '00', window: 16 }");
     return new Receiver(await instantiate(start));
   }
 
@@ -396,22 +439,14 @@ export class Receiver {
    * @param {ReceiverStart} [start]
    */
   constructor(instance, start = {}) {
-    const { draft = '02' } = start;
+    const { draft = '02', window = SIZES.plainWindow } = start;
     const machine = this.#machine = new Machine(instance);
     this.#image = machine.lend(SIZES.receiverImage);
-    this.#pool = machine.lend(SIZES.pool);
+    // What is no number of 32 bits goes as 0, and is refused as that is.
+    this.#start(draft, Number.isInteger(window) && window > 0 && window <= 0xffffffff ? window : 0);
     this.#frame = machine.lend(SIZES.frame + 1);
     this.#output = machine.lend(SIZES.output);
-    this.#burst = {
-      sizes: machine.lend(2 * SIZES.burstFrames),
-      octets: machine.lend((SIZES.frame + 1) * SIZES.burstFrames),
-      output: machine.lend(BURST_OUTPUT),
-      lengths: machine.lend(2 * SIZES.burstBundles),
-      numbers: machine.lend(8 * SIZES.burstBundles),
-      places: machine.lend(4 * SIZES.burstFrames),
-      reasons: machine.lend(4 * SIZES.burstFrames),
-    };
-    this.#start(draft);
+    this.#pool = machine.lend(this.#poolSize);
   }
 
   /** Whether a trap ended the use of this receiver. */
@@ -424,15 +459,30 @@ export class Receiver {
     return draftOf(this.#image, RECEIVER_DRAFT);
   }
 
-  /** Forgets all that was received; the draft stays. */
-  restart() {
-    this.#start(this.draft);
+  /**
+   * How many transfers the window has.
+   * @returns {WindowSize}
+   */
+  get windowSize() {
+    return /** @type {WindowSize} */ (this.#image.octets[RECEIVER_WINDOW]);
   }
 
-  /** @param {Draft} draft */
-  #start(draft) {
-    this.#machine.must(startOf('receiver', draft), this.#image.pointer);
+  get #poolSize() {
+    return SIZES.poolPerRow * this.windowSize;
+  }
+
+  /** Forgets all that was received; draft and window stay. */
+  restart() {
+    this.#start(this.draft, this.windowSize);
     this.#pool.octets.fill(0);
+  }
+
+  /**
+   * @param {Draft} draft
+   * @param {number} window
+   */
+  #start(draft, window) {
+    this.#machine.must(startOf('receiver', draft), this.#image.pointer, window | 0);
   }
 
   /**
@@ -485,7 +535,7 @@ export class Receiver {
    * @param {import('./btpu.mjs').Received} received
    */
   #receiveBurst(frames, first, { bundles, refused }) {
-    const machine = this.#machine, { sizes, octets, output, lengths, numbers, places, reasons } = this.#burst;
+    const machine = this.#machine, { sizes, octets, output, lengths, numbers, places, reasons } = (this.#burst ??= this.#lendBurst());
     let total = 0, frame = 0, place = 0;
     frames.forEach((given, k) => {
       machine.view.setUint16(sizes.at + 2 * k, given.length, true);
@@ -505,6 +555,19 @@ export class Receiver {
     } while (frame < frames.length);
   }
 
+  #lendBurst() {
+    const machine = this.#machine;
+    return {
+      sizes: machine.lend(2 * SIZES.burstFrames),
+      octets: machine.lend((SIZES.frame + 1) * SIZES.burstFrames),
+      output: machine.lend(BURST_OUTPUT),
+      lengths: machine.lend(2 * SIZES.burstBundles),
+      numbers: machine.lend(8 * SIZES.burstBundles),
+      places: machine.lend(4 * SIZES.burstFrames),
+      reasons: machine.lend(4 * SIZES.burstFrames),
+    };
+  }
+
   /**
    * Calls a function with image, pool, words and result. If it traps, the error carries the bundles handed out before.
    * @param {string} name
@@ -514,14 +577,14 @@ export class Receiver {
   #call(name, bundles, ...words) {
     const machine = this.#machine;
     try {
-      return machine.call(name, this.#image.pointer, this.#pool.pointer, BigInt(SIZES.pool), ...words, machine.resultPointer);
+      return machine.call(name, this.#image.pointer, this.#pool.pointer, BigInt(this.#poolSize), ...words, machine.resultPointer);
     } catch (e) {
       if (e instanceof TrapError) e.bundles = bundles;
       throw e;
     }
   }
 
-  /** The greatest transfer number so far and the 16 rows of the window. */
+  /** The greatest transfer number so far and the rows of the window. */
   window() {
     this.#machine.usable();
     return readWindow(this.#image.octets);
@@ -533,21 +596,26 @@ export class Receiver {
    */
   save() {
     this.#machine.usable();
-    return { image: this.#image.octets.slice(), pool: this.#pool.octets.slice() };
+    return { image: this.#image.octets.slice(), pool: this.#pool.octets.slice(0, this.#poolSize) };
   }
 
   /**
-   * Goes on from what was saved, and with its draft. An image that is no sound state is refused, and changes nothing.
+   * Goes on from what was saved, and with its draft and its window. An image that is no sound state, as one that was saved before windows
+   * could be chosen, is refused; that, and a pool of another length than its window asks for, changes nothing.
    * @param {{ image: Octets, pool: Octets }} saved
    */
   restore(saved) {
-    const [image, pool] = partsOf(saved, { image: SIZES.receiverImage, pool: SIZES.pool });
+    const [image, pool] = partsOf(saved, ['image', 'pool']);
+    hasLength(image, SIZES.receiverImage, 'image');
     const kept = this.save().image;
-    this.#image.octets.set(image);
-    const returned = this.#machine.call('btpu_receiver_check', this.#image.pointer);
-    if (returned !== 0) {
+    try {
+      this.#image.octets.set(image);
+      this.#machine.must('btpu_receiver_check', this.#image.pointer);
+      hasLength(pool, this.#poolSize, 'pool');
+      if (this.#pool.size < this.#poolSize) this.#pool = this.#machine.lend(this.#poolSize);
+    } catch (e) {
       this.#image.octets.set(kept);
-      throw new RefusalError(returned);
+      throw e;
     }
     this.#pool.octets.set(pool);
   }
@@ -599,7 +667,7 @@ export class Sender {
   }
 
   get frameSize() {
-    return this.#frame.octets.length;
+    return this.#frame.size;
   }
 
   /** Octets of the frame that is being filled. */
@@ -678,7 +746,9 @@ export class Sender {
    * @param {{ image: Octets, frame: Octets }} saved
    */
   restore(saved) {
-    const [image, frame] = partsOf(saved, { image: SIZES.senderImage, frame: this.frameSize });
+    const [image, frame] = partsOf(saved, ['image', 'frame']);
+    hasLength(image, SIZES.senderImage, 'image');
+    hasLength(frame, this.frameSize, 'frame');
     const kept = this.save().image;
     this.#image.octets.set(image);
     const returned = this.#machine.call('btpu_sender_check', this.#image.pointer);
@@ -705,7 +775,7 @@ export class Sender {
 
 /**
  * Writes, opens and plays recordings: frames in order, at most 1,024 with at most 61,440 octets. A recording has no draft, and a playback
- * takes its frames for frames of draft 02.
+ * takes its frames for frames of draft 02, with a window of 16.
  */
 export class Recorder {
   /** @type {Machine} */ #machine;
@@ -730,7 +800,7 @@ export class Recorder {
     const machine = this.#machine = new Machine(instance);
     this.#recording = machine.lend(SIZES.recording + 1);
     this.#sizes = machine.lend(2 * SIZES.recordedFrames + 2);
-    this.#pool = machine.lend(SIZES.pool);
+    this.#pool = machine.lend(SIZES.poolPerRow * SIZES.playWindow);
     this.#output = machine.lend(SIZES.recordedOctets + 1);
     this.#lengths = machine.lend(2 * SIZES.playedBundles);
     this.#places = machine.lend(4 * SIZES.recordedFrames);
@@ -776,8 +846,8 @@ export class Recorder {
   }
 
   /**
-   * Plays a recording on a fresh receiver of draft 02 until `messages` messages are treated, or to its end. A run of padding counts as
-   * one message; a refused frame has none.
+   * Plays a recording on a fresh receiver of draft 02 with a window of 16 until `messages` messages are treated, or to its end. A run of
+   * padding counts as one message; a refused frame has none.
    * @param {Octets} recording
    * @param {{ messages?: number }} [limit]
    * @returns {import('./btpu.mjs').Playback}
@@ -787,7 +857,7 @@ export class Recorder {
     if (messages !== Infinity) wholeNumber(messages, Number.MAX_SAFE_INTEGER, 'a number of messages');
     const length = this.#take(recording), machine = this.#machine;
     const most = messages === Infinity ? 2n ** 64n - 1n : BigInt(messages);
-    machine.must('btpu_play', this.#recording.pointer, BigInt(length), most, this.#pool.pointer, BigInt(SIZES.pool),
+    machine.must('btpu_play', this.#recording.pointer, BigInt(length), most, this.#pool.pointer, BigInt(this.#pool.size),
       this.#output.pointer, BigInt(SIZES.recordedOctets), this.#lengths.pointer, BigInt(SIZES.playedBundles),
       this.#places.pointer, BigInt(SIZES.recordedFrames), this.#reasons.pointer, BigInt(SIZES.recordedFrames), machine.resultPointer);
     return {

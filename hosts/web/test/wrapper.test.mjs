@@ -8,7 +8,7 @@ import test from 'node:test';
 import { Receiver, Recorder, RefusalError, Sender, SIZES, TrapError, hasMemory64, load, readWindow, words } from '../btpu.mjs';
 import { overLink } from '../frames.mjs';
 import { NOTHING, contentOf, showing, tableOf } from '../timetable.mjs';
-import { cancel, chain, message, octets, piece, repository, sample, sample00, web } from './common.mjs';
+import { cancel, chain, message, octets, piece, pieceIn, repository, sample, sample00, web } from './common.mjs';
 import { damaged, GREATEST, Random, someFrames } from './random-frames.mjs';
 import { withStack } from './starve.mjs';
 
@@ -18,6 +18,7 @@ const refusal = (number) => (e) => e instanceof RefusalError && e.number === num
 const frame = (...messages) => Uint8Array.from(messages.flat());
 const hex = (u) => Buffer.from(u).toString('hex');
 const DRAFTS = ['02', '00'];
+const WINDOWS = [4, 8, 16];
 /** What a receiver answers to frames in hex, one after another. */
 const answered = (r, frames) => frames.map((f) => r.receive(octets(f)))
   .map((a) => [a.bundles.map((b) => [b.number, hex(b.octets)]), a.refusal && [a.refusal.number, a.refusal.place]]);
@@ -30,6 +31,7 @@ for (const name of ['btpu.wasm', 'btpu-plain.wasm', 'btpu64.wasm']) {
     await sending(t, module);
     await recording(t, module);
     await draft00(t, module);
+    await windows(t, module);
   });
 }
 
@@ -78,19 +80,22 @@ async function receiving(t, module, name) {
     for (const other of [undefined, null, 'abc', 5, [2, 0, 0, 0], {}]) assert.throws(() => r.receive(other), TypeError);
   });
 
-  for (const draft of DRAFTS) {
-    await t.test(`saved in mid-transfer, restored in another receiver, of any draft: draft ${draft}`, async () => {
+  const settings = DRAFTS.flatMap((draft) => WINDOWS.map((window) => ({ draft, window })));
+  for (const { draft, window } of settings) {
+    await t.test(`saved in mid-transfer, restored in another receiver, of any draft and window: draft ${draft}, ${window}`, async () => {
       const s = await Sender.create({ frameSize: 128, firstNumber: 77, draft }, module), [first, ...rest] = [...s.send(text('x'.repeat(500))), s.flush()];
-      for (const other of DRAFTS) {
-        const a = await Receiver.create({ draft }, module), b = await Receiver.create({ draft: other }, module);
+      for (const other of settings) {
+        const a = await Receiver.create({ draft, window }, module), b = await Receiver.create(other, module);
         a.receive(first);
         const saved = a.save();
         a.receive(rest[0]); // what goes on in a does not change what was saved
         b.restore(saved);
         assert.deepEqual(b.save(), saved);
-        assert.equal(b.draft, draft);
-        assert.deepEqual(b.window().rows[77 % 16].pieces, [{ index: draft === '00' ? 4 : 0, length: 116 }]);
+        assert.deepEqual([b.draft, b.windowSize, saved.image[1], saved.pool.length], [draft, window, window, 4096 * window]);
+        assert.deepEqual(b.window().rows[77 % window].pieces, [{ index: draft === '00' ? 4 : 0, length: 116 }]);
         assert.deepEqual(rest.flatMap((f) => b.receive(f).bundles).map((x) => [x.number, x.octets.length]), [[77, 500]]);
+        b.restart();
+        assert.deepEqual(b.save(), (await Receiver.create({ draft, window }, module)).save());
       }
     });
   }
@@ -99,7 +104,8 @@ async function receiving(t, module, name) {
     const r = await receiver(), row = 8 + 196 * 5;
     r.receive(frame(piece(false, 5, 1, [1, 2, 3])));
     const before = r.save();
-    for (const [at, octet] of [[0, 2], [1, 1], [2, 2], [2, 255], [3, 1], [row + 3, 0], [row, 9], [3000, 1]]) {
+    const windowless = [0, 1, 4, 5, 9, 15, 17, 32, 255].map((octet) => [1, octet]); // with 4, the row in use is beyond the window
+    for (const [at, octet] of [...windowless, [0, 2], [2, 2], [2, 255], [3, 1], [row + 3, 0], [row, 9], [8 + 196 * 8, 1], [3000, 1]]) {
       const other = r.save();
       other.image[at] = octet;
       other.pool.fill(7);
@@ -112,7 +118,7 @@ async function receiving(t, module, name) {
   });
 
   await t.test('the window as rows', async () => {
-    const r = await receiver();
+    const r = await Receiver.create({ window: 16 }, module);
     assert.equal(r.window().greatest, null);
     assert.ok(r.window().rows.every((row) => row.number === null && row.phase === 'free'));
     r.receive(frame(piece(false, 20, 0, [1, 2]), piece(true, 20, 3, [3]), cancel(19), piece(false, 18, 64, []), piece(true, 17, 0, [9])));
@@ -121,7 +127,7 @@ async function receiving(t, module, name) {
     assert.deepEqual([4, 3, 2, 1, 0].map((k) => [rows[k].number, rows[k].phase]), [[20, 'open'], [19, 'cancelled'], [18, 'given up'], [17, 'done'], [16, 'free']]);
     assert.deepEqual(rows[4], { row: 4, number: 20, phase: 'open', last: 3, pieces: [{ index: 0, length: 2 }, { index: 3, length: 1 }] });
     assert.equal(rows[5].number, 5);
-    assert.throws(() => readWindow(new Uint8Array(3)), RangeError);
+    for (const wrong of [new Uint8Array(3), new Uint8Array(3144), new Uint8Array(3144).fill(17, 1, 2)]) assert.throws(() => readWindow(wrong), RangeError);
   });
 
   await t.test('restart forgets', async () => {
@@ -161,8 +167,8 @@ const REFUSED = [
 /** A bundle of 4,096 octets in three frames. */
 const inThree = (number) => [2036, 2036, 24].map((length, k) => frame(piece(k === 2, number, k, Array(length).fill(number + k))));
 /** Frames of all kinds, in any order. */
-function anyFrames(r, draft) {
-  const run = { base: r.once(2) ? 0xfffffff8 : r.next(), manner: r.below(4), draft };
+function anyFrames(r, draft, window) {
+  const run = { base: r.once(2) ? 0xfffffff8 : r.next(), manner: r.below(4), draft, window };
   const made = someFrames(r, run, 60 + r.below(80)).map((f) => (r.once(4) ? damaged(r, f) : f));
   const frames = [...[...made, ...GREATEST.map((make) => make(r, run))].map((f) => Uint8Array.from(f)), ...REFUSED, ...inThree(run.base)];
   return frames.map((f) => ({ f, key: r.next() })).sort((a, b) => a.key - b.key).map(({ f }) => f);
@@ -171,8 +177,8 @@ function anyFrames(r, draft) {
 async function bursts(t, module, name) {
   const receiver = () => Receiver.create(module);
   /** Holds receiveAll to receive frame by frame: the answer, and the state after. */
-  const same = async (frames, message, draft = '02') => {
-    const [a, b] = await Promise.all([0, 1].map(() => Receiver.create({ draft }, module))), expected = oneByOne(a, frames);
+  const same = async (frames, message, start = {}) => {
+    const [a, b] = await Promise.all([0, 1].map(() => Receiver.create(start, module))), expected = oneByOne(a, frames);
     assert.deepEqual(b.receiveAll(frames), expected, message);
     assert.deepEqual(b.save(), a.save(), message);
     return expected;
@@ -181,13 +187,14 @@ async function bursts(t, module, name) {
   await t.test('frames in bursts: the sample', async () => {
     assert.ok((await same(sample)).bundles.length > 0);
     await same([...sample, ...REFUSED, ...sample]);
-    assert.ok((await same([...sample00, ...REFUSED, ...sample00], 'draft 00', '00')).bundles.length > 0);
+    assert.ok((await same([...sample00, ...REFUSED, ...sample00], 'draft 00', { draft: '00' })).bundles.length > 0);
   });
 
   await t.test('frames in bursts: random ones, with refused ones of each kind', async () => {
     const seed = Number(process.env.BTPU_SEED ?? randomInt(1, 2 ** 32 - 1)), r = new Random(seed);
-    for (let n = 0; n < 16; n++) {
-      const draft = DRAFTS[n % 2], { bundles, refused } = await same(anyFrames(r, draft), `seed ${seed}`, draft);
+    for (let n = 0; n < 18; n++) {
+      const draft = DRAFTS[n % 2], window = WINDOWS[n % 3];
+      const { bundles, refused } = await same(anyFrames(r, draft, window), `seed ${seed}`, { draft, window });
       assert.ok(bundles.length >= 512);
       assert.deepEqual([...new Set(refused.map((x) => x.number))].sort(), draft === '00' ? [3, 4, 6, 8] : [3, 4, 6, 7, 8]);
     }
@@ -346,7 +353,8 @@ async function recording(t, module) {
   const recorder = () => Recorder.create(module);
 
   await t.test('recorded frames open and play as they were received', async () => {
-    const r = await recorder(), receiver = await Receiver.create(module), frames = [...sample, octets('02 00 00 09'), octets('02 00 00 01 41')];
+    const r = await recorder(), receiver = await Receiver.create({ window: 16 }, module);
+    const frames = [...sample, octets('02 00 00 09'), octets('02 00 00 01 41')];
     const recording = r.record(frames);
     assert.deepEqual(r.open(recording), frames);
     const answers = frames.map((f) => receiver.receive(f)), played = r.play(recording);
@@ -441,10 +449,140 @@ async function draft00(t, module) {
   });
 
   await t.test('a recording of frames of draft 00 is played as draft 02', async () => {
-    const r = await Recorder.create(module), receiver = await Receiver.create(module), answers = sample00.map((f) => receiver.receive(f));
+    const r = await Recorder.create(module), receiver = await Receiver.create({ window: 16 }, module), answers = sample00.map((f) => receiver.receive(f));
     const { bundles, refused } = r.play(r.record(sample00));
     assert.deepEqual(bundles, answers.flatMap((a) => a.bundles).map((b) => b.octets));
     assert.deepEqual(refused.map((x) => x.number), answers.flatMap((a) => (a.refusal ? [a.refusal.number] : [])));
+  });
+}
+
+async function windows(t, module) {
+  const receiver = (window, draft = '02') => Receiver.create({ window, draft }, module);
+  const instance = () => WebAssembly.instantiate(module);
+  /** A transfer of one piece: an end, in draft 00 a start, with index 0. */
+  const whole = (number, draft = '02') => frame(pieceIn(draft, number >>> 0, 0, 1, [65]));
+
+  await t.test('the window is 8 unless another is asked for, and no other than 4, 8 or 16', async () => {
+    const made = [Receiver.create(module), Receiver.create({}, module), Receiver.create({ window: undefined, draft: '00' }, module), instance().then((one) => new Receiver(one))];
+    assert.deepEqual((await Promise.all(made)).map((one) => [one.windowSize, one.window().rows.length]), made.map(() => [8, 8]));
+    for (const draft of DRAFTS) {
+      for (const window of WINDOWS) assert.deepEqual([(await receiver(window, draft)).windowSize, (await receiver(window, draft)).draft], [window, draft]);
+      const others = [0, 1, 2, 3, 5, 7, 9, 12, 15, 17, 32, 64, 255, 260, 2 ** 16 + 8, 2 ** 32 - 1, 2 ** 32 + 8, -8, 8.5, NaN, Infinity, '8', null, [8], true];
+      for (const window of others) await assert.rejects(receiver(window, draft), refusal(21));
+    }
+    await assert.rejects(Receiver.create(module, { window: 4 }), TypeError);
+    const { exports } = await instance(), at = Number(exports.__heap_base.value), plain = new Uint8Array(exports.memory.buffer, at, SIZES.receiverImage);
+    plain.fill(0xa5);
+    assert.equal(exports.btpu_receiver_start(exports.__heap_base.value), 0);
+    assert.deepEqual(plain, (await Receiver.create(module)).save().image);
+  });
+
+  for (const draft of DRAFTS) {
+    await t.test(`the borders of the window: draft ${draft}`, async () => {
+      for (const window of WINDOWS) {
+        // By the distance from the greatest number: whether it is handed out, and whether it is the greatest then.
+        const half = 2147483647 + window / 2;
+        const table = [[1, true, true], [window, true, true], [half, true, true], [half + 1, false, false], [2 ** 32 - window, false, false],
+          [2 ** 32 - window + 1, true, false], [2 ** 32 - 1, true, false], [0, false, false]];
+        for (const greatest of [0, 5, 2 ** 31, 2 ** 32 - 3]) {
+          for (const [distance, handed, moves] of table) {
+            const r = await receiver(window, draft), number = (greatest + distance) % 2 ** 32;
+            assert.equal(r.receive(whole(greatest, draft)).bundles.length, 1);
+            assert.deepEqual(r.receive(whole(number, draft)).bundles.map((b) => b.number), handed ? [number] : [], `${window}: ${greatest} then ${number}`);
+            assert.equal(r.window().greatest, moves ? number : greatest);
+          }
+        }
+      }
+    });
+
+    await t.test(`a transfer that is as far behind as the window has rows is lost, with what was held of it: draft ${draft}`, async () => {
+      for (const window of WINDOWS) {
+        for (const [behind, expected] of [[window - 1, [9]], [window, []]]) {
+          const r = await receiver(window, draft);
+          r.receive(frame(pieceIn(draft, 9, 0, 2, [1])));
+          r.receive(whole(9 + behind, draft));
+          assert.equal(r.window().rows.filter((row) => row.phase === 'open').length, expected.length);
+          assert.deepEqual(r.receive(frame(pieceIn(draft, 9, 1, 2, [2]))).bundles.map((b) => b.number), expected);
+        }
+      }
+    });
+  }
+
+  await t.test('rows by the number modulo the window, each with its own part of the pool', async () => {
+    for (const window of WINDOWS) {
+      const r = await receiver(window), numbers = Array.from({ length: window }, (_, k) => (2 ** 32 - 3 + k) % 2 ** 32);
+      for (const number of numbers) r.receive(frame(piece(false, number, 1, [number & 255, 7])));
+      const { greatest, rows } = r.window(), { pool } = r.save();
+      assert.equal(greatest, numbers.at(-1));
+      assert.deepEqual(rows.map((row) => row.number % window), rows.map((row) => row.row));
+      assert.deepEqual(rows.map((row) => row.number).sort((a, b) => a - b), [...numbers].sort((a, b) => a - b));
+      for (const { row, number } of rows) assert.deepEqual([...pool.subarray(4096 * row, 4096 * row + 2)], [number & 255, 7]);
+    }
+  });
+
+  await t.test('a pool of another length than the window asks for is not restored, and changes nothing', async () => {
+    for (const window of WINDOWS) {
+      const r = await receiver(window), saved = r.save();
+      r.receive(whole(3));
+      const before = r.save();
+      for (const length of [0, 1, 4096 * window - 1, 4096 * window + 1, ...WINDOWS.filter((w) => w !== window).map((w) => 4096 * w)]) {
+        assert.throws(() => r.restore({ image: saved.image, pool: new Uint8Array(length) }), RangeError);
+        assert.deepEqual(r.save(), before);
+      }
+      r.restore(saved);
+      assert.deepEqual(r.save(), saved);
+    }
+  });
+
+  await t.test('what was saved before windows could be chosen is refused, and is a state of window 16 in all else', async () => {
+    for (const draft of DRAFTS) {
+      const old = await receiver(16, draft), r = await Receiver.create(module);
+      old.receive(frame(pieceIn(draft, 9, 0, 2, [1])));
+      old.receive(whole(20, draft));
+      const saved = old.save(), before = r.save();
+      saved.image[1] = 0;
+      assert.throws(() => r.restore(saved), refusal(1));
+      assert.deepEqual(r.save(), before);
+      saved.image[1] = 16;
+      r.restore(saved);
+      assert.deepEqual(r.receive(frame(pieceIn(draft, 9, 1, 2, [2]))).bundles.map((b) => [...b.octets]), [[1, 2]]);
+    }
+  });
+
+  await t.test('a playback has a window of 16', async () => {
+    const numbers = Array.from({ length: 16 }, (_, k) => 100 + k), r = await Recorder.create(module);
+    const frames = [0, 1].flatMap((k) => numbers.map((number) => frame(piece(k === 1, number, k, [number]))));
+    const received = await Promise.all(WINDOWS.map(async (window) => (await receiver(window)).receiveAll(frames).bundles.map((b) => b.number)));
+    assert.deepEqual(received, [numbers.slice(-4), numbers.slice(-8), numbers]);
+    assert.deepEqual(r.play(r.record(frames)).bundles.map((b) => b[0]), numbers);
+  });
+
+  await t.test('the memory holds what is lent, and no page more: with a smaller window less, and with bursts only where there are some', async () => {
+    const page = 65536, lent = { image: 3144, frame: 2049, output: 4096, result: 40 };
+    for (const window of WINDOWS) {
+      const one = await instance(), octets = () => one.exports.memory.buffer.byteLength, base = Number(one.exports.__heap_base.value);
+      const r = new Receiver(one, { window }), needed = Object.values(lent).reduce((sum, n) => sum + n, base) + 4096 * window;
+      assert.ok(octets() >= needed && octets() < needed + 16 * 5 + page, `${window}: ${octets()} octets for ${needed}`);
+      const before = r.save();
+      r.receiveAll([whole(1)]);
+      const more = needed + 64 * 2049 + 65536 + 128 + 512 + 2048 + 256 + 256;
+      assert.ok(octets() >= more && octets() < more + 16 * 12 + page, `${window} with bursts: ${octets()} octets for ${more}`);
+      r.restore(before); // what was lent before the memory grew is used still
+      assert.deepEqual(r.receive(whole(1)).bundles.map((b) => b.number), [1]);
+      assert.deepEqual(r.receiveAll([whole(2), whole(3)]).bundles.map((b) => b.number), [2, 3]);
+    }
+  });
+
+  await t.test('a receiver of window 4 goes on with greater windows, and with smaller ones again', async () => {
+    const r = await receiver(4);
+    for (const window of [4, 8, 16, 4, 16, 8]) {
+      const other = await receiver(window);
+      for (let k = 0; k < window; k++) other.receive(frame(piece(false, k, 0, Array(2000).fill(k + 1))));
+      r.restore(other.save());
+      const ends = Array.from({ length: window }, (_, k) => frame(piece(true, k, 1, Array(2000).fill(k + 1))));
+      const bundles = ends.slice(0, 3).flatMap((end) => r.receive(end).bundles).concat(r.receiveAll(ends.slice(3)).bundles);
+      assert.deepEqual(bundles.map((b) => [b.number, b.octets.length, b.octets.every((octet) => octet === b.number + 1)]), ends.map((_, k) => [k, 4000, true]));
+    }
   });
 }
 
@@ -480,14 +618,16 @@ test('sizes and words are those of the C header and of the Rust crate', () => {
   const header = fs.readFileSync(path.join(repository, 'include/btpu.h'), 'utf8');
   const defined = (name) => Number(new RegExp(`#define ${name} (\\d+)`).exec(header)[1]);
   const names = {
-    receiverImage: 'BTPU_RECEIVER_IMAGE', senderImage: 'BTPU_SENDER_IMAGE', pool: 'BTPU_POOL', output: 'BTPU_MIN_OUTPUT', bundle: 'BTPU_MAX_BUNDLE',
+    receiverImage: 'BTPU_RECEIVER_IMAGE', senderImage: 'BTPU_SENDER_IMAGE', output: 'BTPU_MIN_OUTPUT', bundle: 'BTPU_MAX_BUNDLE',
+    plainWindow: 'BTPU_PLAIN_WINDOW', maxWindow: 'BTPU_MAX_WINDOW', playWindow: 'BTPU_PLAY_WINDOW',
     frame: 'BTPU_MAX_FRAME', recording: 'BTPU_MAX_RECORDING', recordedFrames: 'BTPU_RECORDED_FRAMES', recordedOctets: 'BTPU_RECORDED_OCTETS',
     playedBundles: 'BTPU_PLAYED_BUNDLES', burstFrames: 'BTPU_BURST_FRAMES', burstBundles: 'BTPU_BURST_BUNDLES',
   };
-  assert.deepEqual({ ...SIZES }, Object.fromEntries(Object.entries(names).map(([name, define]) => [name, defined(define)])));
+  const poolPerRow = Number(/#define BTPU_POOL\(window\) \(UINT32_C\((\d+)\) \* \(window\)\)/.exec(header)[1]);
+  assert.deepEqual({ ...SIZES }, { poolPerRow, ...Object.fromEntries(Object.entries(names).map(([name, define]) => [name, defined(define)])) });
   const crate = fs.readFileSync(path.join(repository, 'hosts/rust/src/refusal.rs'), 'utf8');
   const numbers = [...header.matchAll(/#define BTPU_REFUSED_\w+ (\d+)/g)].map((m) => Number(m[1]));
-  assert.equal(numbers.length, 20);
+  assert.equal(numbers.length, 21);
   for (const number of numbers) assert.ok(crate.includes(`"${words(number)}"`), words(number));
 });
 
