@@ -13,6 +13,7 @@
 #include "btpu.h"
 
 #define BURST_OUTPUT 65536
+#define WINDOW 16 /* that of all boards before others could be chosen: figures stay comparable */
 
 enum { RECEIVE, PLACE, PLAY, BURST };
 
@@ -22,7 +23,7 @@ struct work {
     uint8_t **item;
 };
 
-static uint8_t state[BTPU_RECEIVER_IMAGE], pool[BTPU_POOL], frame[BTPU_MAX_FRAME], output[BTPU_RECORDED_OCTETS];
+static uint8_t state[BTPU_RECEIVER_IMAGE], pool[BTPU_POOL(WINDOW)], frame[BTPU_MAX_FRAME], output[BTPU_RECORDED_OCTETS];
 static uint8_t sender[BTPU_SENDER_IMAGE], bundle[BTPU_MAX_BUNDLE], recording[BTPU_MAX_RECORDING];
 static uint16_t lengths[BTPU_PLAYED_BUNDLES];
 static uint32_t places[BTPU_RECORDED_FRAMES], reasons[BTPU_RECORDED_FRAMES];
@@ -62,13 +63,13 @@ static double now(void)
 static uint64_t receive_all(const struct work *w)
 {
     uint64_t calls = 0;
-    must(btpu_receiver_start(state));
+    must(btpu_receiver_start_window(state, WINDOW));
     for (uint32_t k = 0; k < w->count; k++) {
         uint64_t place = 0;
         memcpy(frame, w->item[k], w->length[k]);
         for (;;) {
             calls++;
-            must(btpu_receive(state, pool, BTPU_POOL, frame, w->length[k], place, output, BTPU_MIN_OUTPUT, result));
+            must(btpu_receive(state, pool, sizeof pool, frame, w->length[k], place, output, BTPU_MIN_OUTPUT, result));
             if (result[BTPU_ANSWER] != BTPU_BUNDLE)
                 break;
             place = result[BTPU_PLACE];
@@ -95,7 +96,7 @@ static uint64_t play_all(const struct work *w)
 {
     for (uint32_t k = 0; k < w->count; k++) {
         memcpy(recording, w->item[k], w->length[k]);
-        must(btpu_play(recording, w->length[k], UINT64_MAX, pool, BTPU_POOL, output, BTPU_RECORDED_OCTETS, lengths,
+        must(btpu_play(recording, w->length[k], UINT64_MAX, pool, sizeof pool, output, BTPU_RECORDED_OCTETS, lengths,
                        BTPU_PLAYED_BUNDLES, places, BTPU_RECORDED_FRAMES, reasons, BTPU_RECORDED_FRAMES, result));
     }
     return w->count;
@@ -105,7 +106,7 @@ static uint64_t play_all(const struct work *w)
 static uint64_t burst_all(const struct work *w)
 {
     uint64_t total = 0;
-    must(btpu_receiver_start(state));
+    must(btpu_receiver_start_window(state, WINDOW));
     for (uint32_t k = 0; k < w->count; k++) {
         sizes[k] = (uint16_t)w->length[k];
         memcpy(octets + total, w->item[k], w->length[k]);
@@ -113,7 +114,7 @@ static uint64_t burst_all(const struct work *w)
     }
     result[BTPU_BURST_FRAME] = result[BTPU_BURST_PLACE] = 0;
     do {
-        must(btpu_receive_burst(state, pool, BTPU_POOL, sizes, w->count, octets, total, result[BTPU_BURST_FRAME],
+        must(btpu_receive_burst(state, pool, sizeof pool, sizes, w->count, octets, total, result[BTPU_BURST_FRAME],
                                 result[BTPU_BURST_PLACE], burst_output, BURST_OUTPUT, lengths, numbers, places, reasons, result));
     } while (result[BTPU_BURST_FRAME] < w->count);
     return w->count;

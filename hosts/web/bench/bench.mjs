@@ -12,7 +12,7 @@ import { gzipSync } from 'node:zlib';
 import { Receiver } from '../btpu.mjs';
 import { chromium, serve } from '../test/chromium.mjs';
 import { nativeProgram, temporary, web } from '../test/common.mjs';
-import { isWrapped, pack, runner, time, workloads, wrapped } from './work.mjs';
+import { isWrapped, pack, runner, time, WINDOW, workloads, wrapped } from './work.mjs';
 
 const { values } = parseArgs({ options: { rounds: { type: 'string', default: '9' }, ms: { type: 'string', default: '40' } } });
 const rounds = Number(values.rounds), ms = Number(values.ms);
@@ -34,14 +34,14 @@ async function inNode() {
     const { instance } = await WebAssembly.instantiate(octets);
     sides.push([`node ${name}`, list.map((work) => runner(instance, work))]);
   }
-  const receiver = await Receiver.create(modules[0].octets);
+  const receiver = await Receiver.create({ window: WINDOW }, modules[0].octets);
   sides.push(['wrapper, node', list.map((work) => (isWrapped(work) ? wrapped(receiver, work) : null))]);
   return () => sides.map(([name, runs]) => [name, runs.map((run) => run && time(run, ms))]);
 }
 
 /** In a page: makes the runs of all modules, and of the wrapper. */
 const PREPARE = `(async () => {
-  const { isWrapped, runner, time, workloads, wrapped } = await import('/bench/work.mjs');
+  const { isWrapped, runner, time, WINDOW, workloads, wrapped } = await import('/bench/work.mjs');
   const { Receiver } = await import('/btpu.mjs');
   const list = workloads();
   window.sides = [];
@@ -49,7 +49,7 @@ const PREPARE = `(async () => {
     const { instance } = await WebAssembly.instantiateStreaming(fetch('/' + name));
     sides.push(['Chromium ' + name, list.map((work) => runner(instance, work))]);
   }
-  const receiver = await Receiver.create();
+  const receiver = await Receiver.create({ window: WINDOW });
   sides.push(['wrapper, Chromium', list.map((work) => (isWrapped(work) ? wrapped(receiver, work) : null))]);
   window.timed = (ms) => sides.map(([name, runs]) => [name, runs.map((run) => run && time(run, ms))]);
 })()`;

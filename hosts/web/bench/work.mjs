@@ -1,7 +1,14 @@
 // The workloads, as data for the native program and for WebAssembly, and how a module is timed on one. For node and browsers.
 
+import { withRoom } from '../test/compare.mjs';
+
 export const RECEIVE = 0, PLACE = 1, PLAY = 2, BURST = 3;
+/** The window of the receivers: that of all before others could be chosen, so that figures stay comparable. */
+export const WINDOW = 16;
+const POOL = 4096n * BigInt(WINDOW);
 const BURST_OUTPUT = 65536;
+/** The most octets that a workload lends. */
+const LENT = 300000;
 const READY = 2;
 const BEGUN = 8;
 
@@ -85,6 +92,7 @@ export function pack(list) {
 function lender({ exports }) {
   const base = exports.__heap_base.value, pointer = typeof base === 'bigint' ? BigInt : Number;
   let free = (Number(base) + 63) & ~63;
+  withRoom(exports.memory, free + LENT);
   return (length) => {
     const at = free;
     free = (free + length + 63) & ~63;
@@ -96,18 +104,18 @@ const must = (returned) => {
   if (returned !== 0) throw new Error(`refused: ${returned}`);
 };
 
-function receiver({ exports: { btpu_receiver_start: start, btpu_receive: receive, memory } }, lend, { items }) {
-  const state = lend(3144).p, pool = lend(65536).p, frame = lend(2048), output = lend(4096).p, result = lend(32).p;
+function receiver({ exports: { btpu_receiver_start_window: start, btpu_receive: receive, memory } }, lend, { items }) {
+  const state = lend(3144).p, pool = lend(Number(POOL)).p, frame = lend(2048), output = lend(4096).p, result = lend(32).p;
   const answers = new DataView(memory.buffer, Number(result), 32);
   return () => {
     let calls = 0;
-    must(start(state));
+    must(start(state, WINDOW));
     for (const item of items) {
       frame.octets.set(item);
       const length = BigInt(item.length);
       for (let place = 0n; ; place = answers.getBigUint64(16, true)) {
         calls++;
-        must(receive(state, pool, 65536n, frame.p, length, place, output, 4096n, result));
+        must(receive(state, pool, POOL, frame.p, length, place, output, 4096n, result));
         if (answers.getUint32(0, true) !== 1) break;
       }
     }
@@ -146,20 +154,20 @@ function player({ exports: { btpu_play: play } }, lend, { items }) {
 }
 
 /** All items in one burst, continued to its end. */
-function burster({ exports: { btpu_receiver_start: start, btpu_receive_burst: receive, memory } }, lend, { items }) {
-  const state = lend(3144).p, pool = lend(65536).p, sizes = lend(2 * 64), octets = lend(64 * 2048), output = lend(BURST_OUTPUT).p;
+function burster({ exports: { btpu_receiver_start_window: start, btpu_receive_burst: receive, memory } }, lend, { items }) {
+  const state = lend(3144).p, pool = lend(Number(POOL)).p, sizes = lend(2 * 64), octets = lend(64 * 2048), output = lend(BURST_OUTPUT).p;
   const lengths = lend(2 * 256).p, numbers = lend(8 * 256).p, places = lend(4 * 64).p, reasons = lend(4 * 64).p, result = lend(40).p;
   const answers = new DataView(memory.buffer, Number(result), 40), count = BigInt(items.length);
   return () => {
     let total = 0, frame = 0n, place = 0n;
-    must(start(state));
+    must(start(state, WINDOW));
     items.forEach((item, k) => {
       sizes.octets.set([item.length & 255, item.length >> 8], 2 * k);
       octets.octets.set(item, total);
       total += item.length;
     });
     do {
-      must(receive(state, pool, 65536n, sizes.p, count, octets.p, BigInt(total), frame, place, output, BigInt(BURST_OUTPUT),
+      must(receive(state, pool, POOL, sizes.p, count, octets.p, BigInt(total), frame, place, output, BigInt(BURST_OUTPUT),
         lengths, numbers, places, reasons, result));
       frame = answers.getBigUint64(16, true);
       place = answers.getBigUint64(24, true);

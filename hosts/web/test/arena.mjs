@@ -34,7 +34,8 @@ export const ARENA = Math.max(BURSTS, lay(FAR_PARTS));
 /** The functions, in the order of btpu.h, with their parameters: p a pointer, n a number of 64 bits, w one of 32. */
 export const FUNCTIONS = [
   ['btpu_receiver_start', 'p'],
-  ['btpu_receiver_start_00', 'p'],
+  ['btpu_receiver_start_window', 'pw'],
+  ['btpu_receiver_start_00', 'pw'],
   ['btpu_receiver_check', 'p'],
   ['btpu_receive', 'ppnpnnpnp'],
   ['btpu_receive_burst', 'ppnpnpnnnpnppppp'],
@@ -48,11 +49,13 @@ export const FUNCTIONS = [
   ['btpu_recording_open', 'pnpp'],
   ['btpu_play', 'pnnpnpnpnpnpnp'],
 ];
-export const RECEIVE = 3;
+export const RECEIVE = 4;
 /** The parameter of btpu_receive that is the place. */
 export const PLACE = 5;
 /** Parameters of btpu_receive_burst. */
 export const BURST = { frames: 4, frame: 7, place: 8, reasons: 14 };
+/** The octet of a receiver's image that is its window. */
+export const WINDOW = 1;
 /** Stands for a pointer that is NULL. */
 export const NONE = 0xffffffff;
 

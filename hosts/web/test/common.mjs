@@ -24,16 +24,26 @@ export function nativeProgram(file) {
   return program;
 }
 
-/** What the native library makes of frames of a draft: bundles, refused frames, and the window at the end. */
-export function natively(frames, draft = '02') {
-  const out = execFileSync(nativeProgram(path.join(here, 'play.c')), [draft], { input: writeHex(frames), maxBuffer: 1 << 28 }).toString();
-  const lines = out.trim().split('\n').map((line) => line.split(' '));
+/** The lines that play.c writes of frames, as words. */
+function played(frames, ...words) {
+  const out = execFileSync(nativeProgram(path.join(here, 'play.c')), words, { input: writeHex(frames), maxBuffer: 1 << 28 }).toString();
+  return out.trim().split('\n').map((line) => line.split(' '));
+}
+
+const windowIn = ([, image]) => readWindow(octets(image));
+
+/** What the native library makes of frames of a draft, with a window: bundles, refused frames, and the window at the end. */
+export function natively(frames, { draft = '02', window = 8 } = {}) {
+  const lines = played(frames, draft, `${window}`);
   return {
     bundles: lines.filter(([kind]) => kind === 'bundle').map(([, frame, number, octets = '']) => ({ frame: +frame, number, octets })),
     refused: lines.filter(([kind]) => kind === 'refused').map(([, frame, number, place]) => ({ frame: +frame, number, place })),
-    ...readWindow(octets(lines.at(-1)[1])),
+    ...windowIn(lines.at(-1)),
   };
 }
+
+/** The windows that the native library has after each of the frames. */
+export const windowsAfter = (frames, { draft, window }) => played(frames, draft, `${window}`, 'each').filter(([kind]) => kind === 'image').map(windowIn);
 
 export const octets = (hex) => Uint8Array.from(Buffer.from(hex.replace(/ /g, ''), 'hex'));
 const sampleIn = (file) => readHex(fs.readFileSync(path.join(web, file), 'utf8')).frames;

@@ -1,6 +1,6 @@
 // Runs the operations of a test on a WebAssembly module's exports, and compares each call with what the native library answered:
 // the number returned, and the octets of the arena. For node and browsers.
-import { BURST, FUNCTIONS, NONE, OP, PLACE } from './arena.mjs';
+import { BURST, FUNCTIONS, NONE, OP, PLACE, WINDOW } from './arena.mjs';
 
 /** Octets of the images: the draft of a receiver, whether a sender has a transfer begun, and its draft. */
 const RECEIVER_DRAFT = 2, SENDER_BEGUN = 8, SENDER_DRAFT = 9;
@@ -10,6 +10,20 @@ const ANSWERING = ['btpu_receive', 'btpu_receive_burst', 'btpu_place', 'btpu_can
 /** The module's stack, at the bottom of its memory. */
 export const STACK = 196608;
 const UNUSED = 0x5a;
+/** Octets of the memory behind the arena, of which none may change. */
+const BEHIND = 4096;
+
+/** Makes a module's memory grow where it has fewer octets. */
+export function withRoom(memory, octets) {
+  const pages = Math.ceil((octets - memory.buffer.byteLength) / 65536);
+  if (pages <= 0) return;
+  try {
+    memory.grow(pages);
+  } catch (e) {
+    if (!(e instanceof TypeError)) throw e;
+    memory.grow(BigInt(pages)); // of one with 64-bit addresses, in engines that have their final form
+  }
+}
 
 /** Reads little-endian numbers one behind another. */
 class Reader {
@@ -58,6 +72,8 @@ class Comparison {
   passed = {};
   /** In draft 00: transfers handed out by btpu_receive, and calls of btpu_place after which a transfer is begun. */
   draft00 = { received: 0, begun: 0 };
+  /** By window: transfers handed out by btpu_receive. */
+  windows = { 4: 0, 8: 0, 16: 0 };
   /** Octets of the stack used at most by the calls of each kind of section. */
   stack = [0, 0, 0];
   #section = 0;
@@ -71,7 +87,7 @@ class Comparison {
     this.exports = instance.exports;
     this.pointer = typeof base.value === 'bigint' ? BigInt : Number;
     this.from = (Number(base.value) + 63) & ~63;
-    if (this.from + arena > memory.buffer.byteLength) throw new Error('the memory is too small for the arena');
+    withRoom(memory, this.from + arena + BEHIND);
     this.memory = new Uint8Array(memory.buffer);
     this.arena = this.memory.subarray(this.from, this.from + arena);
     this.expected = new Uint8Array(arena);
@@ -90,8 +106,8 @@ class Comparison {
     if (this.difference === null) this.#compare(this.words.length);
     if (this.difference === null && !this.native.ended) this.difference = 'there are more answers than calls';
     if (this.difference === null) this.#outside();
-    const { difference, frames, calls, bundles, refusals, answers, passed, draft00, stack } = this;
-    return { difference, frames, calls, bundles, refusals, answers, passed, draft00, stack };
+    const { difference, frames, calls, bundles, refusals, answers, passed, draft00, windows, stack } = this;
+    return { difference, frames, calls, bundles, refusals, answers, passed, draft00, windows, stack };
   }
 
   #operation(operation) {
@@ -134,7 +150,7 @@ class Comparison {
       const burst = name === 'btpu_receive_burst', answer = this.#answer(burst, words);
       this.#count(which, answer);
       if (burst && answer !== null) this.#countBurst(words);
-      this.#countDraft00(name, answer, this.memory.subarray(Number(words[0])));
+      this.#countTransfer(name, answer, this.memory.subarray(Number(words[0])));
       if (!whole || answer === null || answer === 0 || (!burst && answer !== 1)) return;
       if (burst) [words[BURST.frame], words[BURST.place]] = [this.result.getBigUint64(16, true), this.result.getBigUint64(24, true)];
       else words[PLACE] = this.result.getBigUint64(16, true);
@@ -157,10 +173,11 @@ class Comparison {
     }
   }
 
-  #countDraft00(name, answer, image) {
-    const { draft00 } = this;
+  #countTransfer(name, answer, image) {
+    const { draft00, windows } = this;
     const received = name === 'btpu_receive' && answer === 1 && this.result.getBigUint64(24, true) !== NO_NUMBER;
     if (received && image[RECEIVER_DRAFT] === 1) draft00.received++;
+    if (received) windows[image[WINDOW]]++;
     if (name === 'btpu_place' && answer !== null && image[SENDER_DRAFT] === 1) draft00.begun += image[SENDER_BEGUN];
   }
 

@@ -1,9 +1,9 @@
 // Operations for a test, from a seed: frames for a receiver with wrong lengths, wrong places and images that are not sound; for
 // bursts, for a sender and for recordings likewise.
-import { ARENA, at, FUNCTIONS, NEAR, NONE, OP, RECEIVE, room } from './arena.mjs';
+import { ARENA, at, FUNCTIONS, NEAR, NONE, OP, RECEIVE, room, WINDOW } from './arena.mjs';
 import { piece, pieceIn } from './common.mjs';
 import { be16, be32, damaged, GREATEST, Random, randomFrame, someFrames, traffic } from './random-frames.mjs';
-import { soundRow, UNSOUND } from './random-rows.mjs';
+import { freeRow, soundRow, UNSOUND } from './random-rows.mjs';
 
 /** A file of operations, as arena.mjs says. */
 class Operations {
@@ -83,14 +83,21 @@ const BEYOND = 1n << 32n;
 /** A part and its length; without a pointer at times where the length is 0. */
 const orNone = (r, name, length) => [length === 0 && r.once(2) ? NONE : at[name], length];
 
-/** The function that starts a receiver or a sender of a draft. */
-const startOf = (which, { draft }) => `${which}_start${draft === '00' ? '_00' : ''}`;
-
 // ---- receiver
 
+const WINDOWS = [4, 8, 16];
+/** The pool of a receiver with this window. */
+const poolOf = (window) => 4096 * window;
+
+/** A pool of another length: by a little, of another window, and beyond 32 bits. */
+function wrongPool(r, window) {
+  const right = poolOf(window), others = WINDOWS.filter((other) => other !== window).map(poolOf);
+  return r.pick([0, right - 1, right + 1, right + 128, ...others, BEYOND + BigInt(right)]);
+}
+
 /** A call from any place, with wrong lengths at times. */
-function wrongReceive(r, o, frame) {
-  const pool = r.once(6) ? r.pick([0, 65535, 65537, 65536 + 128, BEYOND + 65536n]) : 65536;
+function wrongReceive(r, o, { window }, frame) {
+  const pool = r.once(6) ? wrongPool(r, window) : poolOf(window);
   const output = r.once(4) ? r.pick([0, 1, 4095, r.below(4096)]) : 4096 + r.below(128);
   const length = r.once(10) ? BEYOND + BigInt(frame.length) : frame.length;
   const far = r.pick([BEYOND, 2n ** 64n - 1n, BEYOND + BigInt(frame.length)]);
@@ -98,12 +105,12 @@ function wrongReceive(r, o, frame) {
   o.call('receive', at.state, ...orNone(r, 'pool', pool), ...orNone(r, 'frame', length), place, ...orNone(r, 'output', output), at.result);
 }
 
-function receiveFrame(r, o, frame) {
+function receiveFrame(r, o, run, frame) {
   o.fill(at.output, room.output, r.next() & 255);
   o.put(at.frame, frame);
-  if (r.once(12)) wrongReceive(r, o, frame);
+  if (r.once(12)) wrongReceive(r, o, run, frame);
   if (r.once(20)) return;
-  o.whole('receive', at.state, at.pool, 65536, at.frame, frame.length, 0, at.output, 4096, at.result);
+  o.whole('receive', at.state, at.pool, poolOf(run.window), at.frame, frame.length, 0, at.output, 4096, at.result);
 }
 
 /** Where a bit of a receiver's image is turned: anywhere, or where a row starts. */
@@ -112,14 +119,25 @@ function turnedInImage(r) {
   return [at.state + offset, 1 << r.below(8)];
 }
 
-/** Checks of the image with a row that is not sound. */
+/** Checks of the image with a row that is not sound, or stands beyond the window. */
 function checkUnsound(r, o, rows) {
   for (let n = 0; n < 12; n++) {
     const k = r.below(16), offset = at.state + 8 + 196 * k;
-    o.put(offset, r.pick(UNSOUND)(r, 1 + r.below(r.pick([4, 16, 64]))));
+    // A sound row is none in its place beyond the window, unless it is free.
+    o.put(offset, r.once(4) ? soundRow(r) : r.pick(UNSOUND)(r, 1 + r.below(r.pick([4, 16, 64]))));
     o.call('receiver_check', at.state);
     o.put(offset, rows[k]);
   }
+}
+
+/** Checks of the image, and calls, with another octet in place of the window: of no window, and of another one. */
+function otherWindows(r, o, { window }) {
+  for (const octet of [0, 1, 5, 9, 15, 17, 32, 255, ...WINDOWS.filter((other) => other !== window)]) {
+    o.put(at.state + WINDOW, [octet]);
+    o.call('receiver_check', at.state);
+    o.call('receive', at.state, at.pool, poolOf(window), at.frame, 1, 0, at.output, 4096, at.result); // the pool is not of the other
+  }
+  o.put(at.state + WINDOW, [window]);
 }
 
 /** Checks of the image with a bit turned. */
@@ -132,18 +150,27 @@ function turnedImages(r, o) {
   }
 }
 
+/** Starts the receiver; with no window before, at times. */
+function callStart(r, o, { draft, window }) {
+  const start = draft === '00' ? 'receiver_start_00' : 'receiver_start_window';
+  if (r.once(3)) o.call(start, at.state, r.pick([0, 1, 2, 3, 5, 7, 9, 12, 15, 17, 32, 64, 255, 260, 0x80000008, 0xffffffff, (r.next() & ~31) >>> 0]));
+  if (draft === '02' && window === 8 && r.once(2)) o.call('receiver_start', at.state);
+  else o.call(start, at.state, window);
+}
+
 function startReceiver(r, o, run) {
   o.fill(at.pool, room.pool, r.next() & 255);
   o.put(at.pool, r.octets(4096));
   o.fill(at.state, room.state, r.next() & 255);
   o.call('receiver_check', at.state);
-  o.call(startOf('receiver', run), at.state);
+  callStart(r, o, run);
   o.call('receiver_check', at.state);
   if (r.once(2)) return;
-  const rows = Array.from({ length: 16 }, () => soundRow(r));
-  o.put(at.state, [1, 0, run.draft === '00' ? 1 : 0, 0, ...be32(run.base), ...rows.flat()]);
+  const rows = Array.from({ length: 16 }, (_, k) => (k < run.window ? soundRow(r) : freeRow));
+  o.put(at.state, [1, run.window, run.draft === '00' ? 1 : 0, 0, ...be32(run.base), ...rows.flat()]);
   o.call('receiver_check', at.state);
   checkUnsound(r, o, rows);
+  otherWindows(r, o, run);
 }
 
 function receiving(r, o, run, frames) {
@@ -155,7 +182,7 @@ function receiving(r, o, run, frames) {
       o.turn(...turned);
       o.call('receiver_check', at.state);
     }
-    receiveFrame(r, o, frame);
+    receiveFrame(r, o, run, frame);
     if (turned !== null) o.turn(...turned, OP.turnBack);
   }
   turnedImages(r, o);
@@ -164,7 +191,7 @@ function receiving(r, o, run, frames) {
 // ---- sender
 
 function startSender(r, o, run, size) {
-  const start = startOf('sender', run);
+  const start = `sender_start${run.draft === '00' ? '_00' : ''}`;
   const first = r.once(3) ? 0xffffffff - r.below(4) : r.next();
   o.fill(at.senderState, room.senderState, r.next() & 255);
   o.call('sender_check', at.senderState);
@@ -282,7 +309,7 @@ function entries(r, name, asked, wrong) {
 function play(r, o, length, messages) {
   const limit = r.pick([0, 1, r.below(messages + 2), r.below(40), messages, BEYOND + 1n, 2n ** 64n - 1n, 2n ** 64n - 1n]);
   const wrong = r.once(3) ? 6 : Infinity;
-  const pool = r.once(wrong) ? r.pick([0, 65535, 65537, BEYOND + 65536n]) : 65536;
+  const pool = r.once(wrong) ? wrongPool(r, 16) : poolOf(16);
   o.fill(at.playOutput, room.playOutput, r.next() & 255);
   for (const name of ['lengths', 'places', 'reasons']) o.fill(at[name], room[name], r.next() & 255);
   o.call('play', ...orNone(r, 'recording', length), limit, ...orNone(r, 'pool', pool),
@@ -387,7 +414,7 @@ function burstStart(r, frames) {
 }
 
 /** Words of a call. */
-function burstWords(r, { pool = 65536, count, octets, start = [0, 0], output }) {
+function burstWords(r, { pool, count, octets, start = [0, 0], output }) {
   return [at.state, ...orNone(r, 'pool', pool), ...orNone(r, 'burstSizes', count), ...orNone(r, 'burstOctets', octets), ...start,
     ...orNone(r, 'burstOutput', output), at.burstLengths, at.burstNumbers, at.burstPlaces, at.burstReasons, at.result];
 }
@@ -399,10 +426,10 @@ function burstOutput(r) {
 }
 
 /** Calls with one thing wrong or, at times, more. */
-function wrongBursts(r, o, frames, right) {
+function wrongBursts(r, o, { window }, frames, right) {
   const n = right.count, sum = right.octets;
   const wrong = [
-    () => ({ pool: r.pick([0, 65535, 65537, 65536 + 128, BEYOND + 65536n]) }),
+    () => ({ pool: wrongPool(r, window) }),
     () => ({ output: r.pick([0, 1, SHORTEST_OUTPUT - 1, r.below(SHORTEST_OUTPUT)]) }),
     () => ({ count: r.pick([MOST_IN_BURST + 1, MOST_IN_BURST + 2, BEYOND + BigInt(n), 2n ** 64n - 1n]) }),
     () => ({ count: r.pick([n + 1, Math.max(n, 1) - 1]) }),
@@ -421,24 +448,27 @@ function wrongBursts(r, o, frames, right) {
 
 function bursts(r, o, run, make) {
   const frames = burstFrames(r, run, make).map((frame) => [...frame]), octets = frames.flat();
-  const right = { count: frames.length, octets: octets.length };
+  const right = { pool: poolOf(run.window), count: frames.length, octets: octets.length };
   for (const name of ['burstOutput', 'burstLengths', 'burstNumbers', 'burstPlaces', 'burstReasons']) {
     o.fill(at[name], room[name], r.next() & 255);
   }
   o.put(at.burstSizes, frames.flatMap((frame) => le16(frame.length)));
   o.put(at.burstOctets, octets);
-  wrongBursts(r, o, frames, right);
+  wrongBursts(r, o, run, frames, right);
   o.whole('receive_burst', ...burstWords(r, { ...right, output: burstOutput(r) }));
   if (r.once(2)) o.whole('receive_burst', ...burstWords(r, { ...right, output: 65536, start: burstStart(r, frames) }));
 }
 
-/** Operations with at least so many frames for a receiver. All kinds are gone through in draft 02, then in draft 00, and so on. */
+/**
+ * Operations with at least so many frames for a receiver. All kinds are gone through in draft 02, then in draft 00, and so on, with each
+ * window in turn.
+ */
 export function generate(seed, frames) {
   const r = new Random(seed), o = new Operations(), kinds = RECORDED.length;
   o.put(0, r.octets(ARENA));
   for (let k = 0; o.frames < frames || k < 2 * kinds; k++) {
     const base = r.once(4) ? (0xfffffff8 + r.below(16)) >>> 0 : r.next();
-    const run = { base, manner: k % 4, draft: Math.floor(k / kinds) % 2 === 0 ? '02' : '00' };
+    const run = { base, manner: k % 4, draft: Math.floor(k / kinds) % 2 === 0 ? '02' : '00', window: WINDOWS[k % 3] };
     o.section(0);
     receiving(r, o, run, k === 0 ? GREATEST.map((make) => make(r, run)) : someFrames(r, run, 40));
     o.section(2);

@@ -16,9 +16,9 @@
 #define BLOCK 16
 #define PAGE 4096
 #define NONE UINT32_C(0xffffffff)
-#define RECEIVE 3
+#define RECEIVE 4
 #define PLACE 5
-#define BURST 4
+#define BURST 5
 #define BURST_GIVEN 4
 #define BURST_FROM 7
 
@@ -94,21 +94,22 @@ static uint32_t call(int function)
 {
     switch (function) {
     case 0: return btpu_receiver_start(P(0));
-    case 1: return btpu_receiver_start_00(P(0));
-    case 2: return btpu_receiver_check(P(0));
+    case 1: return btpu_receiver_start_window(P(0), (uint32_t)N(1));
+    case 2: return btpu_receiver_start_00(P(0), (uint32_t)N(1));
+    case 3: return btpu_receiver_check(P(0));
     case RECEIVE: return btpu_receive(P(0), P(1), N(2), P(3), N(4), N(PLACE), P(6), N(7), P(8));
     case BURST:
         return btpu_receive_burst(P(0), P(1), N(2), P(3), N(BURST_GIVEN), P(5), N(6), N(BURST_FROM), N(BURST_FROM + 1), P(9), N(10),
                                   P(11), P(12), P(13), P(14), P(15));
-    case 5: return btpu_sender_start(P(0), N(1), (uint32_t)N(2));
-    case 6: return btpu_sender_start_00(P(0), N(1), (uint32_t)N(2));
-    case 7: return btpu_sender_check(P(0));
-    case 8: return btpu_place(P(0), P(1), N(2), P(3), N(4), P(5));
-    case 9: return btpu_cancel(P(0), P(1), N(2), P(3));
-    case 10: return btpu_flush(P(0), P(1), N(2), P(3));
-    case 11: return btpu_record(P(0), N(1), P(2), N(3), P(4), N(5), P(6));
-    case 12: return btpu_recording_open(P(0), N(1), P(2), P(3));
-    case 13: return btpu_play(P(0), N(1), N(2), P(3), N(4), P(5), N(6), P(7), N(8), P(9), N(10), P(11), N(12), P(13));
+    case 6: return btpu_sender_start(P(0), N(1), (uint32_t)N(2));
+    case 7: return btpu_sender_start_00(P(0), N(1), (uint32_t)N(2));
+    case 8: return btpu_sender_check(P(0));
+    case 9: return btpu_place(P(0), P(1), N(2), P(3), N(4), P(5));
+    case 10: return btpu_cancel(P(0), P(1), N(2), P(3));
+    case 11: return btpu_flush(P(0), P(1), N(2), P(3));
+    case 12: return btpu_record(P(0), N(1), P(2), N(3), P(4), N(5), P(6));
+    case 13: return btpu_recording_open(P(0), N(1), P(2), P(3));
+    case 14: return btpu_play(P(0), N(1), N(2), P(3), N(4), P(5), N(6), P(7), N(8), P(9), N(10), P(11), N(12), P(13));
     default: stop("no such function");
     }
     return 0;

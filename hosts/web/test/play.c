@@ -1,8 +1,8 @@
 /*
- * Plays frames of a draft, one a line in hex, through the native library: a line for each bundle and each refused frame, at the end one
- * with the state's image.
+ * Plays frames of a draft, one a line in hex, through the native library, with a receiver of a window: a line for each bundle, each refused
+ * frame, and the state's image at the end, or after each frame.
  *
- *     play 00|02
+ *     play 00|02 4|8|16 [each]
  *
  *     bundle FRAME NUMBER|- OCTETS
  *     refused FRAME REFUSAL PLACE|-
@@ -10,10 +10,11 @@
  */
 #include <stdint.h>
 #include <stdio.h>
+#include <stdlib.h>
 #include <string.h>
 #include "btpu.h"
 
-static uint8_t state[BTPU_RECEIVER_IMAGE], pool[BTPU_POOL], frame[BTPU_MAX_FRAME + 1], output[BTPU_MIN_OUTPUT];
+static uint8_t state[BTPU_RECEIVER_IMAGE], pool[BTPU_POOL(BTPU_MAX_WINDOW)], frame[BTPU_MAX_FRAME + 1], output[BTPU_MIN_OUTPUT];
 
 static void hex(const uint8_t *octets, uint64_t length)
 {
@@ -32,7 +33,8 @@ static void take(unsigned k, uint64_t length)
 {
     uint64_t result[BTPU_RESULT] = {0};
     for (uint64_t place = 0;; place = result[BTPU_PLACE]) {
-        uint32_t returned = btpu_receive(state, pool, sizeof pool, frame, length, place, output, sizeof output, result);
+        uint64_t pool_len = BTPU_POOL(state[BTPU_RECEIVER_WINDOW]);
+        uint32_t returned = btpu_receive(state, pool, pool_len, frame, length, place, output, sizeof output, result);
         if (returned) { refused(k, returned); return; }
         if (result[BTPU_ANSWER] == BTPU_FINISHED) return;
         if (result[BTPU_NUMBER] == BTPU_NO_NUMBER) printf("bundle %u - ", k);
@@ -41,13 +43,23 @@ static void take(unsigned k, uint64_t length)
     }
 }
 
+static void image(void)
+{
+    printf("image ");
+    hex(state, sizeof state);
+}
+
+static uint32_t start(const char *draft, uint32_t window)
+{
+    if (strcmp(draft, "00") == 0) return btpu_receiver_start_00(state, window);
+    return strcmp(draft, "02") == 0 ? btpu_receiver_start_window(state, window) : 2;
+}
+
 int main(int count, char **arguments)
 {
     static char line[2 * sizeof frame + 3];
-    if (count != 2) return 2;
-    if (strcmp(arguments[1], "00") == 0) btpu_receiver_start_00(state);
-    else if (strcmp(arguments[1], "02") == 0) btpu_receiver_start(state);
-    else return 2;
+    int each = count == 4 && strcmp(arguments[3], "each") == 0;
+    if ((count != 3 && !each) || start(arguments[1], (uint32_t)strtoul(arguments[2], NULL, 10)) != 0) return 2;
     for (unsigned k = 0; fgets(line, sizeof line, stdin); k++) {
         size_t length = strcspn(line, "\n") / 2;
         for (size_t i = 0; i < length; i++) {
@@ -56,8 +68,8 @@ int main(int count, char **arguments)
             frame[i] = (uint8_t)octet;
         }
         take(k, length);
+        if (each) image();
     }
-    printf("image ");
-    hex(state, sizeof state);
+    if (!each) image();
     return 0;
 }

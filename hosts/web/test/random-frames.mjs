@@ -46,7 +46,7 @@ function hints(r, count) {
   }).flat();
 }
 
-/** A message of any type. `run` holds the transfer numbers in use, in which manner they go on, and the draft; draft 02 if none. */
+/** A message of any type. `run` holds the transfer numbers in use, in which manner they go on, the draft, and the receiver's window. */
 function randomMessage(r, run) {
   const [segment, final] = run.draft === '00' ? [4, 3] : [3, 4], transfer = [segment, segment, segment, segment, final, final, 5];
   const type = r.pick([0, 1, 2, ...transfer, 6 + r.below(250)]);
@@ -56,7 +56,7 @@ function randomMessage(r, run) {
   if (r.once(30)) run.base = (run.base + [1, r.below(40), r.next(), 2][run.manner]) >>> 0;
   else if (r.once(6)) run.base = (run.base + 1) >>> 0;
   const far = r.once(60) ? 0x80000000 + r.below(40) - 20 : 0; // half a turn of the numbers away, where old and new part
-  const number = (run.base + far - r.below(run.manner === 0 ? 3 : 18)) >>> 0;
+  const number = (run.base + far - r.below(run.manner === 0 ? 3 : run.window + 2)) >>> 0;
   const reserved = flagged && r.once(4) ? r.below(8) << 4 : 0;
   const flags = (before.length > 0 ? 128 : 0) | reserved;
   if (type === 5) return message(5, flags, [...before, ...be32(number)]);

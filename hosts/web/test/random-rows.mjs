@@ -3,6 +3,9 @@ import { be16, pieceLengths, shuffled } from './random-frames.mjs';
 
 const filled = (list, length) => [...list, ...Array(length - list.length).fill(0)];
 
+/** A row that is free; the rows beyond the window are the same. */
+export const freeRow = filled([], 196);
+
 /** The octets of a row with these pieces. */
 function openRow(indexes, lengths, last = [0, 0]) {
   return [1, ...last, indexes.length, ...filled(indexes, 64), ...filled(lengths.flatMap(be16), 128)];

@@ -6,9 +6,12 @@ import path from 'node:path';
 import test from 'node:test';
 import { hasMemory64 } from '../btpu.mjs';
 import { octets, repository, web } from './common.mjs';
+import { withRoom } from './compare.mjs';
 
 const IMAGE = 3144;
 const SENDER_IMAGE = 24;
+/** The most octets that a call is lent. */
+const LENT = 131072;
 const NO_NUMBER = 4294967296n;
 const SENDING = ['placed', 'placed and ready', 'ready', 'nothing'];
 /** Entries of a result that have no meaning keep these values. */
@@ -62,9 +65,10 @@ function beyondImage({ rows }) {
   return null;
 }
 
-function receiverImage(state) {
+function receiverImage(state, window) {
   const image = new Uint8Array(IMAGE), view = new DataView(image.buffer);
   image[0] = Number(state.g_known);
+  image[1] = window;
   view.setUint32(4, state.g);
   for (const row of state.rows) {
     const from = 8 + 196 * row.row;
@@ -95,6 +99,7 @@ class Lender {
 
   constructor({ exports }) {
     this.exports = exports;
+    withRoom(exports.memory, Number(exports.__heap_base.value) + LENT);
     this.#memory = exports.memory.buffer;
     this.#pointer = typeof exports.__heap_base.value === 'bigint' ? BigInt : Number;
     this.#base = (Number(exports.__heap_base.value) + 63) & ~63;
@@ -146,16 +151,18 @@ function receiveVector(lender, call, state, pool, context) {
   assert.equal(digest(output), call.output_sha256, `${context}: output`);
 }
 
-function receiverVectors(lender) {
+/** The vectors of a file; those that name no window are from before there were others than 16. */
+function receiverVectors(lender, file) {
   const ran = { lines: 0, calls: 0, leftOut: [] };
-  for (const line of lines('receiver.jsonl')) {
+  for (const line of lines(file)) {
+    const { window = 16 } = line;
     const beyond = line.state === 'start' ? null : beyondImage(line.state);
     if (beyond !== null) {
       ran.leftOut.push(beyond);
       continue;
     }
-    const state = line.state === 'start' ? new Uint8Array(IMAGE).fill(0xa5) : receiverImage(line.state);
-    if (line.state === 'start') assert.equal(lender.call('btpu_receiver_start', [state]), 0);
+    const state = line.state === 'start' ? new Uint8Array(IMAGE).fill(0xa5) : receiverImage(line.state, window);
+    if (line.state === 'start') assert.equal(lender.call('btpu_receiver_start_window', [state, window]), 0);
     const pool = poolPattern(line.pool.len, line.pool.seed);
     line.calls.forEach((call, k) => receiveVector(lender, call, state, pool, `${line.id} call ${k}`));
     ran.lines++;
@@ -204,7 +211,7 @@ for (const name of ['btpu.wasm', 'btpu-plain.wasm', 'btpu64.wasm']) {
 
   // Three lines are left out: no image can hold their states. The numbers are those of harness/tests/vectors.rs.
   test(`${name}: the receiver's vectors`, { skip }, async () => {
-    assert.deepEqual(receiverVectors(await started()), { lines: 347, calls: 5587, leftOut: ['length', 'count', 'index'] });
+    assert.deepEqual(receiverVectors(await started(), 'receiver.jsonl'), { lines: 347, calls: 5587, leftOut: ['length', 'count', 'index'] });
   });
 
   test(`${name}: the sender's vectors`, { skip }, async () => {
