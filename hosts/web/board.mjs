@@ -5,11 +5,12 @@
  *     board.html?station=NAME      the timetable to show; the last one received if not given
  *               &board=NAME        the name under which this board keeps its state: several boards in one browser need different ones
  *               &draft=00          the draft of the frames that it takes: 00 or 02; 02 if not given
+ *               &window=4          how many transfers its window has: 4, 8 or 16; if not given, as many as in what it kept, else 8
  *               &demo              plays the sample
  *               &now=HH:MM         stops the clock, to try things out
  *               &today=YYYY-MM-DD  and the day
  */
-import { Receiver, Recorder, RefusalError, TrapError, load } from './btpu.mjs';
+import { Receiver, Recorder, RefusalError, SIZES, TrapError, load, readWindow } from './btpu.mjs';
 import { element, departureRows, fileBeside, make, many, nameIn, sampleOf } from './dom.mjs';
 import { readHex } from './frames.mjs';
 import { NOTHING, departuresFrom, showing, tableOf, textOf } from './timetable.mjs';
@@ -27,6 +28,8 @@ import { NOTHING, departuresFrom, showing, tableOf, textOf } from './timetable.m
 /** @typedef {{ job: () => Promise<void>, ok: (kept: boolean) => void, no: (error: unknown) => void }} Waiting */
 
 const VERSION = 'btpu-board 1';
+/** The octet of a receiver's image that tells its window; and the window of those that were kept before it did. */
+const WINDOW = 1, OLDER_WINDOW = 16;
 const MOST_ROWS = 40, MOST_NOTICES = 4, MOST_LATER = 5, MOST_FAULTS = 3;
 /** Where a screen lacks room: first departures are left out down to so many, then notices; then the same again. */
 const LEAST = [{ rows: 6, notices: 2 }, { rows: 3, notices: 1 }];
@@ -38,6 +41,17 @@ const query = new URLSearchParams(location.search);
 const key = `btpu-board ${query.get('board') ?? ''}`.trim();
 /** Any other than 00 and 02 makes the board fail, in words. */
 const draft = /** @type {import('./btpu.mjs').Draft} */ (query.get('draft') ?? '02');
+/** @typedef {import('./btpu.mjs').WindowSize} WindowSize */
+/**
+ * The window that the address asks for, if it names one; any other than 4, 8 and 16 makes the board fail, in words.
+ * @type {WindowSize | undefined}
+ */
+const asked = namedWindow(query.get('window'));
+/**
+ * How many transfers the window has.
+ * @type {WindowSize}
+ */
+let size = asked ?? SIZES.plainWindow;
 
 /** @type {WebAssembly.Module} */ let module;
 /** @type {Receiver} */ let receiver;
@@ -52,12 +66,23 @@ let before;
  * @type {Map<string, string>}
  */
 const troubles = new Map();
+/** What is said once, until a bundle comes, and is no trouble. */
+let told = '';
 /**
  * Frames that wait to be taken, and what else waits its turn.
  * @type {Waiting[]}
  */
 const waiting = [];
 let working = false;
+
+/**
+ * A window as the address names it; 0, which is refused, where that is none.
+ * @param {string | null} text
+ */
+function namedWindow(text) {
+  if (text === null) return undefined;
+  return /** @type {WindowSize} */ (['4', '8', '16'].includes(text) ? Number(text) : 0);
+}
 
 /** @returns {Kept} */
 function newRecord() {
@@ -141,26 +166,50 @@ async function takeUp() {
   try {
     const head = `${VERSION} ${sumOf(text.slice(VERSION.length + 10))} `;
     if (!text.startsWith(head)) throw new Error('another version, or a wrong check sum');
-    const kept = JSON.parse(text.slice(head.length));
-    receiver.restore({ image: fromBase64(kept.image), pool: fromBase64(kept.pool) });
+    const kept = JSON.parse(text.slice(head.length)), saved = { image: fromBase64(kept.image), pool: fromBase64(kept.pool) };
+    const older = isOlder(saved);
+    if (older) saved.image[WINDOW] = OLDER_WINDOW;
+    await goOn(saved);
     record = kept.record;
-    if (receiver.draft !== draft) await changeDraft();
+    size = asked ?? receiver.windowSize;
+    if (receiver.draft !== draft || receiver.windowSize !== size) await changeSettings();
+    else if (older) tellOlder();
   } catch {
     await begin();
     troubles.set('kept', 'What was kept could not be read: this board began anew.');
   }
 }
 
-/** A fresh receiver. */
+/** A fresh receiver, with the window that the address names or, where it names none, the plain one. */
 async function begin() {
-  receiver = await Receiver.create({ draft }, module);
+  size = asked ?? SIZES.plainWindow;
+  receiver = await Receiver.create({ draft, window: size }, module);
 }
 
-/** What was kept is of another draft than the address asks for now: the receiver begins anew, and what is shown stays. */
-async function changeDraft() {
-  const dropped = `What was on the way is dropped: ${many(onTheWay().length, 'transfer')}.`, before = receiver.draft;
-  await begin();
-  troubles.set('kept', `This board was set to draft ${before} before, and is set to draft ${draft} now. ${dropped}`);
+/**
+ * Whether a receiver was kept before windows could be chosen: its image does not tell the window, which was 16 then.
+ * @param {import('./btpu.mjs').SavedReceiver} saved
+ */
+const isOlder = ({ image, pool }) => image[WINDOW] === 0 && pool.length === OLDER_WINDOW * SIZES.poolPerRow;
+
+/** Says that the receiver goes on from what was kept before windows could be chosen, and keeps it as what it is. */
+function tellOlder() {
+  told = `What was kept is from before windows could be chosen: this board goes on with its window of ${OLDER_WINDOW} transfers.`;
+  keep();
+}
+
+/**
+ * What was kept is of another draft or another window than the address asks for now: the receiver begins anew, and what is shown stays.
+ */
+async function changeSettings() {
+  const dropped = `What was on the way is dropped: ${many(onTheWay().length, 'transfer')}.`;
+  const changed = [
+    ...(receiver.draft === draft ? [] : [[`draft ${receiver.draft}`, `draft ${draft}`]]),
+    ...(receiver.windowSize === size ? [] : [[`a window of ${receiver.windowSize}`, `a window of ${size}`]]),
+  ];
+  const [before, now] = [0, 1].map((k) => changed.map((words) => words[k]).join(' and '));
+  receiver = await Receiver.create({ draft, window: size }, module);
+  troubles.set('kept', `This board was set to ${before} before, and is set to ${now} now. ${dropped}`);
 }
 
 // Frames are taken in order. Those that wait are taken in one go, then all is stored and drawn once.
@@ -235,7 +284,7 @@ async function work() {
 
 /** @param {Uint8Array} frame */
 async function take(frame) {
-  if (receiver.broken) await renew();
+  if (receiver.broken) await goOn(before);
   before = receiver.save();
   try {
     const { bundles, refusal } = receiver.receive(frame);
@@ -253,14 +302,17 @@ async function take(frame) {
     show(e.bundles);
     record.lost++;
     troubles.set('trap', 'A part of what was sent could not be read.');
-    await renew();
+    await goOn(before);
   }
 }
 
-/** Another receiver, which goes on from before the frame that was taken last. */
-async function renew() {
-  const next = await Receiver.create({ draft }, module);
-  next.restore(before);
+/**
+ * Another receiver, with the window of what was saved, which goes on from there.
+ * @param {import('./btpu.mjs').SavedReceiver} saved
+ */
+async function goOn(saved) {
+  const next = await Receiver.create({ draft, window: /** @type {WindowSize} */ (readWindow(saved.image).rows.length) }, module);
+  next.restore(saved);
   receiver = next;
 }
 
@@ -271,7 +323,9 @@ const onTheWay = () => (receiver.broken ? [] : receiver.window().rows.filter((ro
 function show(bundles) {
   for (const { octets } of bundles) record.shown = showing(record.shown, octets);
   record.bundles += bundles.length;
-  if (bundles.length > 0) troubles.delete('kept');
+  if (bundles.length === 0) return;
+  troubles.delete('kept');
+  told = '';
 }
 
 // The page
@@ -358,7 +412,7 @@ function drawNotices(count) {
 /** @param {Date} now */
 function drawStatus(now) {
   const old = record.at !== null && record.shown.timetables.length > 0 && now.getTime() - record.at > OLD;
-  tell('status', [...troubles.values(), receivedWords(now, old)].join(' '));
+  tell('status', [...troubles.values(), told, receivedWords(now, old)].filter(Boolean).join(' '));
   element('status').className = troubles.size > 0 ? 'bad' : old ? 'old' : '';
 }
 
@@ -404,6 +458,7 @@ function drawSetup(station) {
     'Bundles handed out': record.bundles,
     'On the way': `${many(open.length, 'transfer')}, ${many(pieces, 'piece')} here`,
     Draft: draft,
+    Window: many(size, 'transfer'),
   };
   const lines = Object.entries(counts).flatMap(([name, count]) => [make('dt', '', name), make('dd', '', count.toLocaleString('en'))]);
   element('counts').replaceChildren(...lines);
@@ -496,6 +551,7 @@ async function forget() {
   await begin();
   record = newRecord();
   troubles.clear();
+  told = '';
 }
 
 /** @param {unknown} e */

@@ -1,9 +1,12 @@
 // @ts-check
-// The control room's desk: frames from a file, over a link that can be made bad, into the same receiver that the boards have.
+// The control room's desk: frames from a file, over a link that can be made bad, into the same receiver that the boards have; and into a
+// second one, to see what a small window costs.
 import { Receiver, Recorder, RefusalError, Sender, load } from './btpu.mjs';
-import { departureRows, element, fileBeside, make, many, nameIn, sampleOf } from './dom.mjs';
+import { drawComparison, lacking, verdict } from './compare.mjs';
+import { departureRows, element, figure, fileBeside, make, many, nameIn, sampleOf } from './dom.mjs';
 import { hexOf, overLink, readHex, readingHex, writeHex } from './frames.mjs';
 import { Run } from './run.mjs';
+import { windowSample } from './samples.mjs';
 import { departuresFrom, tableOf, textOf } from './timetable.mjs';
 
 const $ = element;
@@ -21,10 +24,20 @@ const FINAL = { '00': 'start', '02': 'last piece' };
 
 /** @type {WebAssembly.Module} */ let module;
 /** @type {Receiver} */ let receiver;
+/**
+ * Of the second board, if there is one.
+ * @type {Receiver | null}
+ */
+let secondReceiver = null;
 /** @type {Uint8Array[]} */ let sent = [];
 /** Whether these frames come from a recording. */ let recorded = false;
 /** @type {import('./frames.mjs').Arrival[]} */ let arrivals = [];
 /** @type {Run} */ let run;
+/**
+ * The second board's run, at the same place.
+ * @type {Run | null}
+ */
+let second = null;
 /** How many octets of each arrival the board page has got. */ let passedOn = new Uint32Array(0);
 /**
  * To the boards of each draft; none where there is no board to pass frames to.
@@ -39,10 +52,6 @@ const say = (words) => $('status').replaceChildren(words);
 
 /** @param {unknown} e */
 const wordsOf = (e) => (e instanceof Error ? e.message : `${e}`);
-
-const FIGURES = new Intl.NumberFormat('en');
-/** @param {number} number */
-const figure = (number) => FIGURES.format(number);
 
 /**
  * The name of a frame: its place among the arrivals, and among the frames sent where that is another.
@@ -76,7 +85,8 @@ function happened() {
   if (stopped !== null) return stopInWords(stopped);
   if (position === 0) return sent.length === 0 ? 'Choose a file of frames, or take the sample.' : `${many(sent.length, 'frame')} ready.`;
   const { fate, refusal, bundles } = run.events[position - 1];
-  const last = run.atEnd ? ' That was the last frame.' : '';
+  const compared = second === null || !(run.atEnd || second.broken) ? '' : ` ${verdict(run, second, lacking(run, second))}`;
+  const last = `${run.atEnd ? ' That was the last frame.' : ''}${compared}`;
   if (refusal !== null) return `${nameOf(position - 1)}: refused, ${refusal.words}.${last}`;
   return `${nameOf(position - 1)}: ${bundles.length > 0 ? `${many(bundles.length, 'bundle')} handed out` : fate}.${last}`;
 }
@@ -170,14 +180,46 @@ function limit() {
  */
 const chosenDraft = () => $('draft').value;
 
+/**
+ * A receiver of a draft with the window that a control is set to: the one that was there, where it is such a one.
+ * @param {Receiver | null} before
+ * @param {string} control
+ */
+async function receiverFor(before, control) {
+  const draft = chosenDraft(), window = /** @type {import('./btpu.mjs').WindowSize} */ (Number($(control).value));
+  const fits = before !== null && !before.broken && before.draft === draft && before.windowSize === window;
+  return fits ? before : Receiver.create({ draft, window }, module);
+}
+
+/** Receivers as the controls ask for them. */
+async function setBoards() {
+  const first = await receiverFor(receiver ?? null, 'first-window');
+  const other = $('second-window').value === '' ? null : await receiverFor(secondReceiver, 'second-window');
+  [receiver, secondReceiver] = [first, other];
+}
+
+/** Runs of all boards from the first frame on. */
+function newRuns() {
+  run = new Run(receiver, arrivals, limit());
+  second = secondReceiver === null ? null : new Run(secondReceiver, arrivals, limit());
+  document.body.dataset.boards = second === null ? 'one' : 'two';
+}
+
 /** Sends the frames over the link and begins anew. */
 async function restart() {
-  const draft = chosenDraft();
-  if (receiver.broken || receiver.draft !== draft) receiver = await Receiver.create({ draft }, module);
+  await setBoards();
   arrivals = overLink(sent, link());
   passedOn = new Uint32Array(arrivals.length);
-  run = new Run(receiver, arrivals, limit());
+  newRuns();
   halt(happened());
+}
+
+/** Sets boards to other windows; the place stays. */
+async function changeWindows() {
+  await setBoards();
+  const place = run.position;
+  newRuns();
+  await seek(place);
 }
 
 /** Sets the desk to the draft chosen and begins anew, unless the frames are those of a recording, which is draft 02. */
@@ -189,9 +231,9 @@ function changeDraft() {
 
 /** Sets another limit of messages; the place stays where it lies before it. */
 async function changeLimit() {
-  if (receiver.broken) return restart();
+  if (receiver.broken || secondReceiver?.broken) return restart();
   const place = run.position;
-  run = new Run(receiver, arrivals, limit());
+  newRuns();
   await seek(place);
 }
 
@@ -202,6 +244,7 @@ async function changeLimit() {
 function forward() {
   const k = run.position;
   if (!run.step()) return false;
+  second?.goTo(run.position);
   const { fate, length } = run.events[k];
   if (fate !== 'lost' && passedOn[k] < length && $('send').checked) {
     passedOn[k] = length;
@@ -224,6 +267,7 @@ function next() {
 async function seek(place) {
   // Frames that are passed on are taken one by one.
   if (place < run.position || !$('send').checked) run.near(place);
+  second?.goTo(run.position);
   await drive(forward, () => run.position >= place || run.atEnd, () => Infinity, '', place);
 }
 
@@ -361,6 +405,17 @@ async function openFile(file) {
 }
 
 /**
+ * Takes a sample for two boards, to its end. Where there is no second board, there is one with another window then.
+ * @param {'mixed' | 'late' | 'sequence'} kind
+ * @param {string} name
+ */
+async function useWindowSample(kind, name) {
+  if ($('second-window').value === '') $('second-window').value = $('first-window').value === '4' ? '16' : '4';
+  await use(`Sample, ${name}`, await windowSample(kind, chosenDraft(), module));
+  await toTheEnd();
+}
+
+/**
  * @param {string} name
  * @param {string} text
  */
@@ -422,9 +477,9 @@ function draw() {
   drawMap();
   drawControls();
   drawStrip();
-  drawWindow();
+  drawWindows();
   drawBoard();
-  drawLists();
+  drawBoards();
   drawCounts();
   drawnAt = performance.now();
 }
@@ -596,14 +651,32 @@ function drawRow(row, greatest, fresh) {
   return line;
 }
 
-function drawWindow() {
-  const { greatest, rows } = run.window;
-  const pieces = run.position === 0 ? [] : run.events[run.position - 1].pieces;
+/**
+ * The window of a board's run.
+ * @param {Run} board
+ * @param {string} which the ending of the ids
+ * @param {string} name of the board, where there are two
+ */
+function drawWindow(board, which, name) {
+  const { greatest, rows } = board.window;
+  const pieces = board.position === 0 ? [] : board.events[board.position - 1].pieces;
   const fresh = new Set(pieces.map(({ row, index }) => `${row} ${index}`));
-  $('greatest').textContent = greatest === null ? 'no transfer seen yet' : `greatest number ${greatest}`;
-  $('window').tBodies[0].replaceChildren(...rows.map((row) => drawRow(row, greatest, fresh)));
+  retitle(`h-window${which}`, name === '' ? `Window of ${rows.length} transfers` : `${name}: window of ${rows.length} transfers`);
+  $(`greatest${which}`).textContent = greatest === null ? 'no transfer seen yet' : `greatest number ${greatest}`;
+  $(`window${which}`).tBodies[0].replaceChildren(...rows.map((row) => drawRow(row, greatest, fresh)));
+}
+
+function drawWindows() {
+  drawWindow(run, '', second === null ? '' : 'First board');
+  if (second !== null) drawWindow(second, '-2', 'Second board');
   for (const word of document.querySelectorAll('.final')) word.textContent = FINAL[receiver.draft];
 }
+
+/**
+ * @param {string} id of a heading
+ * @param {string} title
+ */
+const retitle = (id, title) => $(id).querySelector('b').replaceChildren(title);
 
 /**
  * What the panel of the board was drawn from.
@@ -656,7 +729,7 @@ function departuresInWords(table, count, time) {
  * Items that are drawn, by what they stand for: those which stay are not made anew.
  * @type {Record<string, Map<object, HTMLElement>>}
  */
-const items = { bundles: new Map(), refused: new Map() };
+const items = { bundles: new Map(), 'bundles-2': new Map(), refused: new Map() };
 
 /**
  * @template {object} T
@@ -674,10 +747,30 @@ function drawList(name, list, count, item) {
   $(`more-${name}`).textContent = count > list.length ? `and ${figure(count - list.length)} more before these` : '';
 }
 
-function drawLists() {
+/** The lists, and the comparison where there are two boards. */
+function drawBoards() {
+  const lacked = second === null ? null : lacking(run, second);
+  for (const id of ['compare', 'second', 'second-handed']) $(id).hidden = second === null;
+  retitle('h-board', second === null ? 'What the board shows' : 'What the first board shows');
+  retitle('h-bundles', second === null ? 'Bundles handed out' : 'First board: bundles handed out');
   drawList('bundles', run.lastBundles(LISTED), run.counts.bundles, bundleItem);
+  drawList('bundles-2', second?.lastBundles(LISTED) ?? [], second?.counts.bundles ?? 0, bundleItem);
+  markOnly('bundles', lacked?.[1] ?? [], 'not on the second board');
+  markOnly('bundles-2', lacked?.[0] ?? [], 'not on the first board');
   drawList('refused', run.lastRefused(LISTED), run.counts.refused, refusedItem);
   if (run.counts.lost > 0) $('n-refused').append(`, and ${figure(run.counts.lost)} lost on the link`);
+  if (second !== null && lacked !== null) drawComparison(run, second, lacked, goButton);
+}
+
+/**
+ * Marks the bundles of a list that the other board lacks.
+ * @param {string} name
+ * @param {object[]} lacked
+ * @param {string} words
+ */
+function markOnly(name, lacked, words) {
+  const only = new Set(lacked);
+  for (const [entry, item] of items[name]) item.querySelector('.only')?.replaceChildren(only.has(entry) ? words : '');
 }
 
 /**
@@ -687,12 +780,22 @@ function drawLists() {
  * @param {number} arrival
  */
 function itemTop(what, more, arrival) {
-  const top = make('div', 'top'), go = make('button', 'go', `Frame ${figure(arrival + 1)}`);
-  go.setAttribute('type', 'button');
+  const top = make('div', 'top'), go = goButton(`Frame ${figure(arrival + 1)}`, arrival);
   go.setAttribute('aria-label', `Go to frame ${arrival + 1}`);
-  go.addEventListener('click', () => attempt(() => seek(arrival + 1)));
-  top.append(make('span', 'what', what), make('span', 'meta', more), go);
+  top.append(make('span', 'what', what), make('span', 'meta', more), make('span', 'only'), go);
   return top;
+}
+
+/**
+ * A button that goes to a frame.
+ * @param {string} text
+ * @param {number} arrival
+ */
+function goButton(text, arrival) {
+  const go = make('button', 'go', text);
+  go.setAttribute('type', 'button');
+  go.addEventListener('click', () => attempt(() => seek(arrival + 1)));
+  return go;
 }
 
 const SHORT = 160;
@@ -730,9 +833,10 @@ function refusedItem({ arrival, refusal: { number, place, words } }) {
 }
 
 function drawCounts() {
-  const { taken, refused, lost, copies, bundles, octets, messages } = run.counts;
+  const { taken, refused, lost, copies, bundles, octets, messages, passed, dropped } = run.counts;
   const link = { Sent: sent.length, Lost: lost, 'Second copies': copies, Taken: taken, Refused: refused };
-  const entries = Object.entries({ ...link, Messages: messages, Bundles: bundles, 'Octets of bundles': octets });
+  const window = { 'Messages too far behind': passed, 'Dropped half-received': dropped };
+  const entries = Object.entries({ ...link, Messages: messages, ...window, Bundles: bundles, 'Octets of bundles': octets });
   $('counts').replaceChildren(...entries.flatMap(([name, count]) => [make('dt', '', name), make('dd', '', figure(count))]));
 }
 
@@ -766,10 +870,15 @@ function listen() {
   on('end', 'click', toTheEnd);
   on('seek', 'input', () => seek(Number($('seek').value)));
   on('draft', 'change', changeDraft);
+  on('first-window', 'change', changeWindows);
+  on('second-window', 'change', changeWindows);
   on('limit', 'change', changeLimit);
   on('station', 'change', drawBoard);
   on('time', 'input', drawBoard);
   on('sample', 'click', async () => useText('Sample', await sampleOf(chosenDraft())));
+  on('mixed', 'click', () => useWindowSample('mixed', 'mixed transfers'));
+  on('late', 'click', () => useWindowSample('late', 'late repetition'));
+  on('sequence', 'click', () => useWindowSample('sequence', 'transfers in sequence'));
   on('paste', 'click', () => useText('Pasted lines', $('lines').value));
   on('cut', 'click', cut);
   on('save', 'click', save);
@@ -817,7 +926,6 @@ function listenToDrops() {
 
 try {
   module = await load(await fileBeside('btpu.wasm'));
-  receiver = await Receiver.create(module);
   try {
     for (const draft of /** @type {const} */ (['00', '02'])) channels[draft] = new BroadcastChannel(nameIn('btpu-frames', draft));
   } catch { /* no board to pass frames to */ }

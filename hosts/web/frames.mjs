@@ -106,6 +106,35 @@ export function messagesOf(frame) {
 }
 
 /**
+ * Where the content of a message starts: behind its header and, in draft 02, its hints.
+ * @param {Uint8Array} frame
+ * @param {number} start
+ * @param {import('./btpu.mjs').Draft} draft
+ */
+function contentAt(frame, start, draft) {
+  let at = start + 4;
+  for (let more = draft === '02' && (frame[start + 1] & 128) !== 0; more;) {
+    more = (frame[at] & 1) === 1;
+    at += 2 + frame[at + 1];
+  }
+  return at;
+}
+
+/**
+ * The transfer messages of a frame that the library did not refuse: where each starts, and the number of its transfer.
+ * @param {Uint8Array} frame
+ * @param {import('./btpu.mjs').Draft} draft
+ * @returns {{ start: number, number: number }[]}
+ */
+export function transfersOf(frame, draft) {
+  const starts = messagesOf(frame).filter((start) => frame[start] >= 3 && frame[start] <= 5);
+  return starts.map((start) => {
+    const [a, b, c, d] = frame.subarray(contentAt(frame, start, draft));
+    return { start, number: ((a << 24) | (b << 16) | (c << 8) | d) >>> 0 };
+  });
+}
+
+/**
  * Numbers from a seed, the same in every engine (xorshift).
  * @param {number} seed
  */

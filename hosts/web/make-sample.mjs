@@ -3,6 +3,7 @@
 import fs from 'node:fs';
 import { Sender } from './btpu.mjs';
 import { writeHex } from './frames.mjs';
+import { timetable } from './samples.mjs';
 
 const MILL_BRIDGE = `Timetable: Mill Bridge
 Edition: 1
@@ -37,17 +38,6 @@ const LIFT = 'Harbour: the lift to platform 3 is out of order. Please use the ra
 const TREE = 'No service on Line S3 between Weir and Lake End until 09:00: a tree lies on the track. Buses run from the station square.';
 const COUNTER = 'Mill Bridge: the ticket counter opens at 06:30 today.';
 const FOREIGN = 'not for these boards';
-
-/** A timetable with a departure every `step` minutes; # in a line stands for the platform, 1 and 2 in turn. */
-function timetable(station, first, step, count, lines) {
-  const [hour, minute] = first.split(':').map(Number);
-  const departures = Array.from({ length: count }, (_, k) => {
-    const at = hour * 60 + minute + step * k;
-    const time = [Math.floor(at / 60) % 24, at % 60].map((n) => String(n).padStart(2, '0')).join(':');
-    return `${time} ${lines[k % lines.length].replace('#', `Platform ${1 + (k % 2)}`)}\n`;
-  });
-  return `Timetable: ${station}\nEdition: 1\n${departures.join('')}`;
-}
 
 const octets = (text) => new TextEncoder().encode(text);
 const be32 = (x) => [x >>> 24, (x >>> 16) & 255, (x >>> 8) & 255, x & 255];

@@ -5,13 +5,14 @@ import path from 'node:path';
 import test, { after, before } from 'node:test';
 import { Recorder } from '../btpu.mjs';
 import { writeHex } from '../frames.mjs';
+import { windowSample } from '../samples.mjs';
 import { NOTHING, contentOf, departuresFrom, showing, tableOf } from '../timetable.mjs';
 import { chromium, serve } from './chromium.mjs';
-import { chain, here, leastContrast, message, natively, octets, piece, sample, sample00, temporary, unnamed, web } from './common.mjs';
+import { chain, here, leastContrast, message, natively, octets, piece, pieceIn, sample, sample00, temporary, unnamed, web } from './common.mjs';
 import { withStack } from './starve.mjs';
 
 const TALL = { width: 1600, height: 900 };
-const expected = natively(sample), expected00 = natively(sample00, '00');
+const expected = natively(sample), expected00 = natively(sample00, { draft: '00' });
 const firstEnd = expected.bundles[0].frame;
 const text = (words) => [...new TextEncoder().encode(words)];
 const bundle = (words) => Uint8Array.from(message(2, 0, text(words)));
@@ -215,6 +216,147 @@ test('a draft that there is not is told, and the board does not begin', { timeou
       await ready(page);
       assert.equal(await page.evaluate('document.body.dataset.ready'), 'failed');
       assert.equal((await shown(page)).status, "This board does not work: a draft is '00' or '02'.");
+    } finally {
+      await page.close();
+    }
+  }
+});
+
+// ---- windows
+
+const mixed = { '02': await windowSample('mixed', '02'), '00': await windowSample('mixed', '00') };
+
+for (const [draft, window] of [['02', 4], ['02', 8], ['02', 16], ['00', 4], ['00', 16]]) {
+  const name = `window-${draft}-${window}`, words = `now=06:00&draft=${draft}&window=${window}`;
+  boardTest(`a window of ${window} in draft ${draft}: reloaded again and again, and as the native library hands the bundles out`, { name, words }, async (page) => {
+    const frames = mixed[draft], native = natively(frames, { draft, window }), all = showingAll(native);
+    for (let k = 0; k < frames.length; k += 7) {
+      await feed(page, frames.slice(k, k + 7), { atOnce: true });
+      await reopen(page, address(name, k % 2 === 0 ? words : `now=06:00&draft=${draft}`)); // the window may be named or not
+    }
+    const { counts, kind, status } = await shown(page);
+    assert.deepEqual([counts['Bundles handed out'], counts.Window, counts.Draft], [`${native.bundles.length}`, `${window} transfers`, draft]);
+    assert.deepEqual([kind, status], ['', 'Last received 06:00.']);
+    for (const { station } of all.timetables.slice(0, 3)) {
+      await reopen(page, address(name, `${words}&station=${encodeURIComponent(station)}`));
+      const { rows } = await shown(page);
+      assert.ok(rows.length > 3);
+      assert.deepEqual(rows, departuresFrom(tableOf(all, station), '06:00').slice(0, rows.length).map(rowOf));
+    }
+    assert.equal((await keptBy(page, name)).pool.length, 4096 * window);
+  });
+}
+
+test('the mixed sample tells the windows apart', () => {
+  for (const [draft, frames] of Object.entries(mixed)) assert.deepEqual([4, 8, 16].map((window) => natively(frames, { draft, window }).bundles.length), [8, 14, 18]);
+});
+
+const OTHER_WINDOW = 'a board that is set to another window says so, keeps what it shows, and nothing is lost before a frame comes';
+boardTest(OTHER_WINDOW, { name: 'resized', words: 'now=07:10&window=16' }, async (page) => {
+  const open = (words) => reopen(page, address('resized', `now=07:10&${words}`));
+  await feed(page, sample.slice(0, firstEnd + 3));
+  const { rows, counts: first } = await shown(page);
+  assert.ok(rows.length > 0);
+  assert.equal(first.Window, '16 transfers');
+  await open('window=4');
+  const told = 'This board was set to a window of 16 before, and is set to a window of 4 now. What was on the way is dropped: 1 transfer.';
+  const changed = await shown(page);
+  assert.deepEqual([changed.rows, changed.status, changed.kind, changed.counts.Window], [rows, `${told} Last received 07:10.`, 'bad', '4 transfers']);
+  assert.match(changed.counts['On the way'], /^0 transfers/);
+  await open(''); // no frame has come, and no window is named
+  const back = await shown(page);
+  assert.deepEqual([back.rows, back.status, back.counts.Window], [rows, 'Last received 07:10. More is on the way.', '16 transfers']);
+  await open('window=8&draft=00');
+  assert.match((await shown(page)).status, /^This board was set to draft 02 and a window of 16 before, and is set to draft 00 and a window of 8 now\. .* 1 transfer\./);
+  await open('draft=00'); // the window of what was kept goes on with the other draft
+  assert.match((await shown(page)).status, /^This board was set to draft 02 before, and is set to draft 00 now\. .* 1 transfer\./);
+  assert.equal((await shown(page)).counts.Window, '16 transfers');
+  await open('window=4');
+  await feed(page, sample.slice(0, 3));
+  assert.match((await shown(page)).status, /^This board was set to a window of 16 before/);
+  await feed(page, sample, { atOnce: true });
+  assert.equal((await shown(page)).status, 'Last received 07:10.');
+  await open('');
+  const { status, counts } = await shown(page);
+  assert.deepEqual([status, counts.Window], ['Last received 07:10.', '4 transfers']);
+  await click(page, 'forget');
+  await click(page, 'forget');
+  await page.until(`document.querySelectorAll('#departures tbody tr').length === 0`);
+  assert.equal((await shown(page)).counts.Window, '8 transfers'); // as of a board that never kept anything
+});
+
+/** What a board keeps: its receiver. */
+const keptBy = (page, name) => page.evaluate(`(() => {
+  const text = localStorage.getItem(${keyOf(name)}), kept = JSON.parse(text.slice(text.indexOf('{')));
+  const octets = (part) => [...atob(kept[part])].map((c) => c.charCodeAt(0));
+  return { image: octets('image'), pool: octets('pool') };
+})()`);
+
+/** Changes what a board keeps, with a right check sum. */
+const keepAs = (page, name, saved) => page.evaluate(`(() => {
+  const text = localStorage.getItem(${keyOf(name)}), kept = JSON.parse(text.slice(text.indexOf('{'))), saved = ${JSON.stringify(saved)};
+  for (const part in saved) kept[part] = btoa(String.fromCharCode(...saved[part]));
+  const body = JSON.stringify(kept);
+  let sum = 0x811c9dc5;
+  for (let k = 0; k < body.length; k++) sum = Math.imul(sum ^ body.charCodeAt(k), 0x01000193);
+  localStorage.setItem(${keyOf(name)}, 'btpu-board 1 ' + (sum >>> 0).toString(16).padStart(8, '0') + ' ' + body);
+})()`);
+
+/** Makes what a board of window 16 keeps what it would have kept before windows could be chosen. */
+async function makeOlder(page, name) {
+  const { image } = await keptBy(page, name);
+  assert.equal(image[1], 16);
+  await keepAs(page, name, { image: image.map((octet, k) => (k === 1 ? 0 : octet)) });
+}
+
+const OLDER = 'What was kept is from before windows could be chosen: this board goes on with its window of 16 transfers.';
+for (const draft of ['02', '00']) {
+  const name = `older-${draft}`, plain = `now=07:10&draft=${draft}`, table = text('Timetable: Weir\n07:30 Line R4 Platform 1 Quarry');
+  const halves = [table.slice(0, 20), table.slice(20)].map((data, k) => Uint8Array.from(pieceIn(draft, 9, k, 2, data)));
+  const whole = (number) => Uint8Array.from(pieceIn(draft, number, 0, 1, text('A notice')));
+  boardTest(`what was kept before windows could be chosen goes on, and that is said once: draft ${draft}`, { name, words: `${plain}&window=16` }, async (page) => {
+    const open = (words) => reopen(page, address(name, `${plain}&${words}`));
+    await feed(page, [whole(8), halves[0], whole(9 + 12)]); // no smaller window would hold it still
+    await makeOlder(page, name);
+    await open('');
+    const { status, kind, counts, notices } = await shown(page);
+    assert.deepEqual([status, kind], [`${OLDER} Last received 07:10. More is on the way.`, '']);
+    assert.deepEqual([counts.Window, counts['Bundles handed out'], notices], ['16 transfers', '2', ['A notice']]);
+    await open('');
+    assert.equal((await shown(page)).status, 'Last received 07:10. More is on the way.');
+    await makeOlder(page, name);
+    await open('window=8');
+    assert.match((await shown(page)).status, /^This board was set to a window of 16 before, and is set to a window of 8 now\. .* 1 transfer\./);
+    await open('window=16'); // no frame has come
+    assert.match((await shown(page)).status, new RegExp(`^${OLDER}`));
+    await feed(page, [halves[1]]);
+    const then = await shown(page);
+    assert.deepEqual([then.rows, then.status, then.kind], [[['07:30', 'R4', 'Quarry', '1', '']], 'Last received 07:10.', '']);
+    assert.equal((await keptBy(page, name)).image[1], 16);
+  });
+}
+
+boardTest('an image without a window is no older one where its pool is not, or its state is not sound', { name: 'odd', words: 'now=07:10&window=16' }, async (page) => {
+  for (const spoil of [({ pool }) => ({ pool: pool.slice(0, 32768) }), ({ pool }) => ({ pool: pool.concat([0]) }), ({ image }) => ({ image: image.map((x, k) => (k === 3 ? 1 : x)) })]) {
+    await click(page, 'forget');
+    await click(page, 'forget');
+    await feed(page, sample.slice(0, 3));
+    await makeOlder(page, 'odd');
+    await keepAs(page, 'odd', spoil(await keptBy(page, 'odd')));
+    await reopen(page, address('odd', 'now=07:10'));
+    const { status, counts } = await shown(page);
+    assert.deepEqual([status, counts.Window], ['What was kept could not be read: this board began anew. Nothing received yet.', '8 transfers']);
+    await reopen(page, address('odd', 'now=07:10&window=16'));
+  }
+});
+
+test('a window that there is not is told, and the board does not begin', { timeout: 30000 }, async () => {
+  for (const window of ['5', '32', '0', '', 'eight', '08', '8.0']) {
+    const page = await browser.page(address('no-window', `window=${window}`), TALL);
+    try {
+      await ready(page);
+      assert.equal(await page.evaluate('document.body.dataset.ready'), 'failed');
+      assert.equal((await shown(page)).status, 'This board does not work: refusal 21: window not 4, 8 or 16.');
     } finally {
       await page.close();
     }

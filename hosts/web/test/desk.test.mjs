@@ -23,8 +23,8 @@ before(async () => {
   page = await browser.page(`${site.address}/desk.html`, LARGE);
   await page.until('document.body.dataset.ready');
 });
-// No limit, a good link and draft 02, from the next frames on that are loaded.
-beforeEach(() => set({ ...GOOD, limit: '', draft: '02' }));
+// No limit, a good link, draft 02 and one board with the plain window, from the next frames on that are loaded.
+beforeEach(() => set({ ...GOOD, limit: '', draft: '02', 'first-window': 8, 'second-window': '' }));
 after(async () => {
   await browser?.close();
   site?.close();
@@ -140,9 +140,9 @@ function boardOf(bundles, station, time) {
 }
 
 /** Holds what the page shows to what the native library makes of the arrivals up to a place. */
-async function hold(arrivals, place = arrivals.length, { station = '', time = '06:00', draft = '02' } = {}) {
+async function hold(arrivals, place = arrivals.length, { station = '', time = '06:00', draft = '02', window = 8 } = {}) {
   const is = await shown(), came = [...arrivals.keys()].filter((k) => k < place && !arrivals[k].lost);
-  const { bundles, refused, rows } = natively(came.map((k) => arrivals[k].frame), draft), bad = refused.map((r) => came[r.frame]);
+  const { bundles, refused, rows } = natively(came.map((k) => arrivals[k].frame), { draft, window }), bad = refused.map((r) => came[r.frame]);
   assert.deepEqual(is.bundles, bundles.map((b) => ({ number: b.number, octets: b.octets, frame: `${came[b.frame]}` })));
   assert.deepEqual(is.refused, refused.map((r) => ({ number: r.number, place: r.place, frame: `${came[r.frame]}` })));
   assert.deepEqual(is.rows, rowsOf(rows, draft));
@@ -277,6 +277,7 @@ test('play by the space bar at a pace, pause, and on to the end', async () => {
 test('a recording loads and plays', async () => {
   await useLink(GOOD);
   const frames = await night();
+  await set({ 'first-window': 16 }); // that of the library's playback
   await open('night.recording', recorder.record(frames));
   assert.equal(await textOf('source'), `Recording night.recording: ${frames.length} frames`);
   await put('pace', 'Infinity', 'change');
@@ -291,6 +292,7 @@ test('a recording loads and plays', async () => {
 test('stop after a number of messages, as the library plays a recording', async () => {
   const several = Uint8Array.from([...message(2, 0, [65]), 0, 0, 0, ...message(2, 0, [66]), ...message(2, 0, [67])]);
   const frames = [octets('0200000140'), octets('030000'), several, ...sample.slice(0, 40)], recording = recorder.record(frames);
+  await set({ 'first-window': 16 });
   await open('limits.recording', recording);
   for (const messages of [0, 1, 2, 3, 4, 5, 20]) {
     await put('limit', messages, 'change');
@@ -581,7 +583,7 @@ test('frames are passed on to boards of their own draft alone', async () => {
     await begin(GOOD, sample00);
     await page.evaluate(`document.getElementById('send').checked = true`);
     await toTheEnd();
-    const good = sample00.length - natively(sample00, '00').refused.length;
+    const good = sample00.length - natively(sample00, { draft: '00' }).refused.length;
     await boards[0].until(`document.querySelector('#counts dd').textContent === '${good}'`);
     assert.ok(await boards[0].evaluate(`document.querySelectorAll('#departures tbody tr').length > 3`));
     await paste(['0200000141']);

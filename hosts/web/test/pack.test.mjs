@@ -61,7 +61,7 @@ for (const [draft, frames] of [['02', sample], ['00', sample00]]) {
       await page.evaluate(`document.getElementById('draft').value = '${draft}'; document.getElementById('sample').click()`);
       await page.until(`!document.getElementById('end').disabled`);
       await page.evaluate(`document.getElementById('end').click()`);
-      const { bundles } = natively(frames, draft);
+      const { bundles } = natively(frames, { draft });
       await page.until(`document.querySelectorAll('#bundles > li').length === ${bundles.length}`);
     });
   });

@@ -4,14 +4,15 @@ import fs from 'node:fs';
 import path from 'node:path';
 import test from 'node:test';
 import { Receiver, Recorder, Sender, load } from '../btpu.mjs';
-import { hexOf, messagesOf, numbers, overLink, readHex, readingHex } from '../frames.mjs';
+import { hexOf, messagesOf, numbers, overLink, readHex, readingHex, transfersOf } from '../frames.mjs';
 import { Run } from '../run.mjs';
 import { NOTHING, showing } from '../timetable.mjs';
 import { cancel, chain, message, natively, octets, piece, sample, sample00, web } from './common.mjs';
 import { withStack } from './starve.mjs';
 
 const module = await load();
-const receiver = await Receiver.create(module), receiver00 = await Receiver.create({ draft: '00' }, module);
+// Of window 16, as the library's playback is.
+const receiver = await Receiver.create({ window: 16 }, module), receiver00 = await Receiver.create({ draft: '00' }, module);
 const recorder = await Recorder.create(module);
 const GOOD = { seed: 1, lose: 0, double: 0, shuffle: 0, damage: 0 }, BAD = { seed: 133, lose: 30, double: 12, shuffle: 12, damage: 14 };
 
@@ -96,7 +97,7 @@ test('in draft 00 a run shows what the native library makes of the frames, at it
     for (const position of [arrivals.length, 40, 90, 7, arrivals.length]) {
       run.goTo(position);
       const came = [...arrivals.keys()].filter((k) => k < position && !arrivals[k].lost), { bundles, refused, window } = facts(run);
-      const expected = natively(came.map((k) => arrivals[k].frame), '00');
+      const expected = natively(came.map((k) => arrivals[k].frame), { draft: '00' });
       assert.deepEqual(bundles.reverse(), expected.bundles.map((b) => [came[b.frame], b.number === '-' ? null : +b.number, b.octets]));
       assert.deepEqual(refused.map((x) => x.arrival).reverse(), expected.refused.map((x) => came[x.frame]));
       assert.deepEqual(window, { greatest: expected.greatest, rows: expected.rows });
@@ -118,9 +119,8 @@ test('lost frames are passed, and nothing behind the last message is', () => {
 
 test('going back and forth shows what a run from the start shows', async () => {
   const arrivals = overLink([...sample, ...mixedFrames(9, 300), ...sample], BAD), { below } = numbers(4);
-  const second = await Receiver.create(module);
-  for (const limit of [{}, { messages: 333 }]) {
-    const run = new Run(receiver, arrivals, limit);
+  for (const [limit, window] of [[{}, 16], [{ messages: 333 }, 16], [{}, 4]]) {
+    const [one, second] = await Promise.all([0, 1].map(() => Receiver.create({ window }, module))), run = new Run(one, arrivals, limit);
     for (let k = 0; k < 60; k++) {
       const position = below(arrivals.length + 1), straight = new Run(second, arrivals, limit);
       while (straight.position < position && straight.step()) { /* on */ }
@@ -148,11 +148,12 @@ test('what a board shows is folded over the bundles up to the position', () => {
 
 test('the pieces that came with an arrival are those that the window did not hold before', async () => {
   const piecesOf = (row) => (row.phase === 'open' ? row.pieces.map((p) => `${row.number} ${row.row} ${p.index}`) : []);
-  // The last one is a transfer that takes the row of another.
+  // The last one is a transfer that takes the row of another, in each window.
   const taking = [piece(false, 3, 0, [65]), piece(false, 19, 0, [66])].map((octets) => Uint8Array.from(octets));
+  const links = [overLink([...sample, ...mixedFrames(5, 200)], BAD), overLink(taking, GOOD)];
   let seen = 0;
-  for (const arrivals of [overLink([...sample, ...mixedFrames(5, 200)], BAD), overLink(taking, GOOD)]) {
-    const run = new Run(receiver, arrivals), second = await Receiver.create(module);
+  for (const [arrivals, window] of links.flatMap((link) => [4, 8, 16].map((size) => [link, size]))) {
+    const [one, second] = await Promise.all([0, 1].map(() => Receiver.create({ window }, module))), run = new Run(one, arrivals);
     let before = new Set();
     for (const arrival of arrivals) {
       run.step();
@@ -180,7 +181,8 @@ test('a trap ends the run, and is said', async () => {
 });
 
 test('a long run keeps few checkpoints and goes back at once', async () => {
-  const frames = Array.from({ length: 20000 }, (_, k) => sample[k % sample.length]);
+  // One transfer a frame: nothing else is saved then.
+  const few = sample.filter((frame) => transfersOf(frame, '02').length < 2), frames = Array.from({ length: 20000 }, (_, k) => few[k % few.length]);
   const run = new Run(receiver, overLink(frames, GOOD));
   let saved = 0;
   const save = receiver.save.bind(receiver);
