@@ -25,11 +25,12 @@ export function lacking(first, second) {
 }
 
 /**
+ * What comes of comparing two boards, in words.
  * @param {Run} first
  * @param {Run} second
  * @param {[Handed[], Handed[]]} lacked
  */
-export function verdict(first, second, lacked) {
+function verdict(first, second, lacked) {
   if (second.broken !== null) return `The second board failed at frame ${figure(second.broken.arrival + 1)}: ${second.broken.words}.`;
   const said = [1, 0].filter((k) => lacked[k].length > 0)
     .map((k) => `The ${NAMES[k]} board lacks ${many(lacked[k].length, 'bundle')} that the ${NAMES[1 - k]} one has.`);
@@ -114,7 +115,8 @@ function item(k, board, { arrival, bundle: { number } }, go) {
 export function drawComparison(first, second, lacked, go) {
   const boards = [first, second], all = lacked.flatMap((list, k) => list.map((handed) => ({ k, handed })));
   all.sort((a, b) => b.handed.arrival - a.handed.arrival);
-  element('verdict').textContent = verdict(first, second, lacked);
+  const said = verdict(first, second, lacked);
+  if (element('verdict').textContent !== said) element('verdict').textContent = said; // it is read out when it changes
   element('costs').tBodies[0].replaceChildren(...costs(boards, lacked));
   items = new Map(all.slice(0, LISTED).map(({ k, handed }) => item(k, boards[k], handed, go)));
   const box = element('lacking'), drawn = [...items.values()];

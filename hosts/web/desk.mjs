@@ -2,7 +2,7 @@
 // The control room's desk: frames from a file, over a link that can be made bad, into the same receiver that the boards have; and into a
 // second one, to see what a small window costs.
 import { Receiver, Recorder, RefusalError, Sender, load } from './btpu.mjs';
-import { drawComparison, lacking, verdict } from './compare.mjs';
+import { drawComparison, lacking } from './compare.mjs';
 import { departureRows, element, figure, fileBeside, make, many, nameIn, sampleOf } from './dom.mjs';
 import { hexOf, overLink, readHex, readingHex, writeHex } from './frames.mjs';
 import { Run } from './run.mjs';
@@ -85,8 +85,7 @@ function happened() {
   if (stopped !== null) return stopInWords(stopped);
   if (position === 0) return sent.length === 0 ? 'Choose a file of frames, or take the sample.' : `${many(sent.length, 'frame')} ready.`;
   const { fate, refusal, bundles } = run.events[position - 1];
-  const compared = second === null || !(run.atEnd || second.broken) ? '' : ` ${verdict(run, second, lacking(run, second))}`;
-  const last = `${run.atEnd ? ' That was the last frame.' : ''}${compared}`;
+  const last = run.atEnd ? ' That was the last frame.' : '';
   if (refusal !== null) return `${nameOf(position - 1)}: refused, ${refusal.words}.${last}`;
   return `${nameOf(position - 1)}: ${bundles.length > 0 ? `${many(bundles.length, 'bundle')} handed out` : fate}.${last}`;
 }

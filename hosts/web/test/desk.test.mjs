@@ -1,13 +1,16 @@
-// The desk page in headless Chromium, held to the native library. SCREENSHOTS=FOLDER writes FOLDER/desk.png and FOLDER/desk-night.png.
+// The desk page in headless Chromium, held to the native library. SCREENSHOTS=FOLDER writes FOLDER/desk.png, desk-night.png and
+// desk-windows.png.
 import assert from 'node:assert/strict';
 import fs from 'node:fs';
 import path from 'node:path';
 import test, { after, before, beforeEach } from 'node:test';
 import { Recorder, Sender } from '../btpu.mjs';
 import { hexOf, overLink, readHex, writeHex } from '../frames.mjs';
+import { windowSample } from '../samples.mjs';
 import { NOTHING, departuresFrom, showing, tableOf } from '../timetable.mjs';
 import { chromium, serve } from './chromium.mjs';
 import { chain, leastContrast, message, natively, octets, sample, sample00, temporary, unnamed, web } from './common.mjs';
+import { lackingOf, nativelyCame, reckoned } from './reckoning.mjs';
 import { withStack } from './starve.mjs';
 
 const GOOD = { seed: 1, lose: 0, double: 0, shuffle: 0, damage: 0 };
@@ -100,19 +103,25 @@ const SHOWN = `(() => {
   const all = (selector) => [...document.querySelectorAll(selector)];
   const text = (id) => document.getElementById(id).textContent;
   const list = (id) => all('#' + id + ' > li').reverse().map((li) => ({ ...li.dataset }));
+  const number = (text) => +text.replaceAll(',', '');
+  const counts = all('#counts dt').map((dt) => [dt.textContent, number(dt.nextElementSibling.textContent)]);
   const indexes = (row, kind) => [...row.querySelectorAll('.p' + kind)].map((cell) => +/^piece (\\d+)/.exec(cell.title)[1]);
   const row = (tr) => ({ row: +tr.cells[0].textContent, number: tr.cells[1].textContent, phase: tr.cells[2].textContent,
     octets: tr.cells[4].textContent.replaceAll(',', ''), all: indexes(tr, ''), here: indexes(tr, '.have'), missing: indexes(tr, '.miss'),
     last: indexes(tr, '.last'), more: [...tr.querySelectorAll('.cells > *')].findIndex((cell) => cell.className === 'more') });
   return {
     bundles: list('bundles'), refused: list('refused'), rows: all('#window tbody tr').map(row),
+    bundles2: list('bundles-2'), lacking: list('lacking'), rows2: all('#window-2 tbody tr').map(row), verdict: text('verdict'),
+    table: Object.fromEntries(all('#costs tbody tr').map((tr) => [tr.cells[0].textContent, [1, 2].map((k) => number(tr.cells[k].textContent))])),
+    only: all('#bundles .only, #bundles-2 .only').filter((e) => e.checkVisibility()).length,
+    costs: ['Messages too far behind', 'Dropped half-received'].map((name) => Object.fromEntries(counts)[name]),
     labels: all('#window tbody [role=img]').map((cells) => cells.getAttribute('aria-label')),
     fresh: all('#window .p.new').length, heads: [text('n-bundles'), text('n-refused')],
     fates: all('#strip .f').map((cell) => ['taken', 'refused', 'lost'].find((fate) => cell.classList.contains(fate)) ?? ''),
     now: all('#strip .f').findIndex((cell) => cell.classList.contains('now')),
     departures: all('#departures tbody tr').map((tr) => [...tr.cells].map((td) => td.firstChild?.textContent ?? '')),
     notices: all('#notices li').map((li) => li.textContent), later: text('later'), place: text('place'), status: text('status'),
-    seek: +document.getElementById('seek').value, counts: all('#counts dd').map((dd) => +dd.textContent.replaceAll(',', '')),
+    seek: +document.getElementById('seek').value, counts: counts.map(([, count]) => count),
   };
 })()`;
 const shown = () => page.evaluate(SHOWN);
@@ -426,8 +435,9 @@ async function longWork(frames) {
   return page.evaluate('clearInterval(window.watch), window.gap');
 }
 
-test('20,000 frames: the page answers all the time, and shows a part of the strip', async (t) => {
+test('20,000 frames on two boards: the page answers all the time, and shows a part of the strip', async (t) => {
   const frames = Array.from({ length: 20000 }, (_, k) => sample[k % sample.length]), gaps = [];
+  await set({ 'second-window': 4 });
   // A busy machine makes the page wait; so the best of three counts.
   do gaps.push(await longWork(frames)); while (gaps.at(-1) >= 1000 && gaps.length < 3);
   t.diagnostic(`longest time without an answer ${gaps.at(-1).toFixed(0)} ms`);
@@ -438,7 +448,7 @@ test('20,000 frames: the page answers all the time, and shows a part of the stri
   assert.match(await textOf('page'), /of 20,000$/);
   assert.equal(is.bundles.length, 100);
   assert.match(await textOf('more-bundles'), /^and [\d,]+ more before these$/);
-  assert.deepEqual(is.rows, rowsOf(natively(frames.slice(0, 9000)).rows, '02'));
+  assert.deepEqual([is.rows, is.rows2], [8, 4].map((window) => rowsOf(natively(frames.slice(0, 9000), { window }).rows, '02')));
 });
 
 test('steps in quick succession each count, while the seek before still goes on', async () => {
@@ -474,6 +484,232 @@ test('long work ends at Pause', async () => {
   })()`);
   assert.equal(places.during, 'Pause');
   assert.ok(places.paused > 0 && places.paused < 20000 && places.later === places.paused, JSON.stringify(places));
+});
+
+// ---- windows
+
+test('as many rows as the window has, in both drafts; the place stays where another window is chosen', async () => {
+  for (const [draft, frames] of [['02', sample], ['00', sample00]]) {
+    await set({ draft });
+    const arrivals = await begin(BAD, frames);
+    for (const place of [60, 105]) {
+      await seek(place);
+      for (const window of [4, 8, 16]) {
+        await put('first-window', window, 'change');
+        const is = await hold(arrivals, place, { draft, window });
+        assert.equal(is.rows.length, window);
+        assert.match(await textOf('h-window'), new RegExp(`^Window of ${window} transfers`));
+        const costs = reckoned(arrivals.slice(0, place), { draft, window });
+        assert.deepEqual(is.costs, [costs.flatMap((cost) => cost.passed).length, dropped(costs)]);
+      }
+    }
+  }
+});
+
+/** How many open transfers a window left behind. */
+const dropped = (costs) => costs.flatMap((cost) => cost.freed).filter(({ phase }) => phase === 'open').length;
+
+/** The bundles of a list, as the page has them. */
+const listed = (bundles) => bundles.map((b) => ({ number: b.number, octets: b.octets, frame: `${b.arrival}` })).slice(-100);
+
+const SAID = (board, count, other) => `The ${board} board lacks ${count} bundle${count === 1 ? '' : 's'} that the ${other} one has.`;
+
+/** What the comparison must say of the bundles that the first and the second board lack. */
+function verdictOf([first, second], bundles) {
+  if (first === 0 && second === 0) return bundles === 0 ? 'No board has handed out a bundle yet.' : 'Both boards have handed out the same bundles.';
+  return [second > 0 ? SAID('second', second, 'first') : '', first > 0 ? SAID('first', first, 'second') : ''].filter(Boolean).join(' ');
+}
+
+/** Holds what the page shows of two boards to what the native library makes of the arrivals with each window, and to the reckoning. */
+async function holdTwo(all, place, windows, draft = '02') {
+  const is = await shown(), arrivals = all.slice(0, place), boards = windows.map((window) => nativelyCame(arrivals, { draft, window }));
+  const lacked = [lackingOf(boards[0].bundles, boards[1].bundles), lackingOf(boards[1].bundles, boards[0].bundles)];
+  const costs = windows.map((window) => reckoned(arrivals, { draft, window }));
+  assert.deepEqual(is.table, {
+    'Window, transfers': windows,
+    'Pool, octets': windows.map((window) => 4096 * window),
+    'Bundles handed out': boards.map((board) => board.bundles.length),
+    'Bundles lacking': lacked.map((list) => list.length),
+    'Dropped half-received': costs.map(dropped),
+    'Messages too far behind': costs.map((list) => list.flatMap((cost) => cost.passed).length),
+  });
+  assert.equal(is.verdict, verdictOf(lacked.map((list) => list.length), boards[0].bundles.length));
+  assert.deepEqual([is.rows, is.rows2], boards.map((board) => rowsOf(board.window.rows, draft)));
+  assert.deepEqual([is.bundles, is.bundles2], boards.map((board) => listed(board.bundles)));
+  const items = ['first', 'second'].flatMap((board, k) => lacked[k].map((b) => ({ board, number: b.number, frame: `${b.arrival}` })));
+  const order = (a, b) => a.frame - b.frame || (a.board < b.board ? -1 : 1);
+  assert.deepEqual(is.lacking.map(({ board, number, frame }) => ({ board, number, frame })).sort(order), items.sort(order).slice(-100));
+  assert.equal(is.only, lacked[1].length + lacked[0].length);
+  return is;
+}
+
+const PAIRS = [[8, 4], [16, 8], [4, 16], [8, 8]];
+for (const draft of ['02', '00']) {
+  test(`two boards on the samples for them, by one click, in draft ${draft}`, async () => {
+    for (const kind of ['mixed', 'late', 'sequence']) {
+      const arrivals = overLink(await windowSample(kind, draft), GOOD);
+      await useLink(GOOD);
+      for (const [first, second] of PAIRS) {
+        await set({ draft, 'first-window': first, 'second-window': second });
+        await click(kind);
+        await page.until(`document.body.dataset.busy === 'no' && document.getElementById('seek').value === '${arrivals.length}'`);
+        const is = await holdTwo(arrivals, arrivals.length, [first, second], draft);
+        assert.match(is.status, /That was the last frame\.$/);
+        for (const place of [20, 33, 7]) {
+          await seek(place);
+          await holdTwo(arrivals, place, [first, second], draft);
+        }
+      }
+    }
+  });
+}
+
+test('two boards over bad links, back and forth, and on frames with several messages', async () => {
+  for (const link of [BAD, { seed: 7, lose: 5, double: 60, shuffle: 40, damage: 40 }]) {
+    await set({ 'first-window': 16, 'second-window': 4 });
+    const arrivals = await begin(link, [...sample, ...(await windowSample('late', '02'))]);
+    for (const place of [arrivals.length, 31, 100, 150, 0, 90]) {
+      await seek(place);
+      await holdTwo(arrivals, place, [16, 4]);
+    }
+    await put('first-window', 4, 'change');
+    await put('second-window', 16, 'change');
+    await holdTwo(arrivals, 90, [4, 16]);
+  }
+});
+
+test('a sample for two boards sets a second board where there is none; without one the page is as before', async () => {
+  for (const [first, second] of [[8, '4'], [16, '4'], [4, '16']]) {
+    await set({ 'first-window': first, 'second-window': '' });
+    await click('mixed');
+    await page.until(`document.body.dataset.boards === 'two' && document.body.dataset.busy === 'no' && document.getElementById('seek').value === '54'`);
+    assert.equal(await page.evaluate(`document.getElementById('second-window').value`), second);
+    assert.match(await textOf('source'), /^Sample, mixed transfers: 54 frames$/);
+  }
+  const seen = () => page.evaluate(`['compare', 'second', 'second-handed'].map((id) => document.getElementById(id).checkVisibility())`);
+  assert.deepEqual(await seen(), [true, true, true]);
+  assert.match(await textOf('h-window'), /^First board: window of 4 transfers/);
+  await put('second-window', '', 'change');
+  assert.deepEqual(await seen(), [false, false, false]);
+  assert.match(await textOf('h-window'), /^Window of 4 transfers/);
+  assert.equal((await shown()).only, 0);
+  await hold(overLink(await windowSample('mixed', '02'), GOOD), 54, { window: 4 });
+});
+
+test('why a board lacks a bundle: in words, with the frames to go to', async () => {
+  await set({ 'first-window': 16, 'second-window': 4 });
+  await click('late');
+  await page.until(`document.body.dataset.busy === 'no' && document.getElementById('seek').value === '54'`);
+  const items = await page.evaluate(`[...document.querySelectorAll('#lacking li')].map((li) => [...li.querySelectorAll('.what, .only, .why, .go')].map((e) => e.textContent))`);
+  assert.deepEqual(items, [
+    ['Transfer 104', 'not on the second board',
+      'Its row was freed at frame 20, when transfer 108 came: 2 pieces held were lost. 1 message of it came later, the last at frame 48, when it was 12 behind: this board goes back 3.',
+      'Lost at frame 20', 'On the first board at frame 48'],
+    ['Transfer 106', 'not on the second board',
+      'Its row was freed at frame 26, when transfer 110 came: 2 pieces held were lost. 1 message of it came later, the last at frame 35, when it was 6 behind: this board goes back 3.',
+      'Lost at frame 26', 'On the first board at frame 35'],
+  ]);
+  const go = async (k, n) => {
+    await page.evaluate(`document.querySelectorAll('#lacking li')[${k}].querySelectorAll('.go')[${n}].click()`);
+    await idle();
+    return (await shown()).seek;
+  };
+  assert.equal(await go(1, 1), 35);
+  assert.equal((await shown()).lacking.length, 1);
+  assert.equal(await go(0, 0), 26);
+  assert.equal((await shown()).lacking.length, 0);
+  assert.ok(!(await shown()).rows2.some((row) => row.number === '106'));
+});
+
+test('two boards by the keyboard', async () => {
+  await set({ 'first-window': 8, 'second-window': '' });
+  await page.evaluate(`document.getElementById('second-window').focus()`);
+  for (const expected of ['4', '8', '16']) {
+    await page.key('ArrowDown');
+    await page.until(`document.body.dataset.busy === 'no' && document.getElementById('window-2').tBodies[0].rows.length === ${expected}`);
+  }
+  await page.key('ArrowUp');
+  await page.key('Tab');
+  assert.equal(await page.evaluate('document.activeElement.id'), 'mixed');
+  await page.key('Enter', 'Enter', '\r');
+  const arrivals = overLink(await windowSample('mixed', '02'), GOOD);
+  await page.until(`document.body.dataset.busy === 'no' && document.getElementById('seek').value === '54'`);
+  await page.key('Tab');
+  assert.equal(await page.evaluate('document.activeElement.id'), 'late');
+  for (let n = 0; n < 4; n++) await page.key('ArrowLeft');
+  await idle();
+  await holdTwo(arrivals, 50, [8, 8]);
+  await page.key('ArrowRight');
+  await holdTwo(arrivals, 51, [8, 8]);
+  await blur();
+});
+
+test('two boards: nothing moves while frames come, names and contrast are good, and narrow screens need no scrolling to the side', async () => {
+  await set({ 'first-window': 8, 'second-window': 4 });
+  await click('mixed');
+  await page.until(`document.body.dataset.busy === 'no' && document.getElementById('seek').value === '54'`);
+  const places = () => page.evaluate(`['compare', 'h-lacking', 'h-window', 'h-window-2', 'h-board'].map((id) => Math.round(document.getElementById(id).getBoundingClientRect().top + scrollY))`);
+  for (const [width, height] of [[LARGE.width, LARGE.height], [1000, 800], [400, 800]]) {
+    await page.size(width, height);
+    await wait(100);
+    const before = await places();
+    for (const place of [0, 5, 13, 19, 40, 54]) {
+      await seek(place);
+      assert.deepEqual(await places(), before, `${width} px, frame ${place}`);
+    }
+  }
+  for (const width of [320, 400, 700, 1000]) {
+    await page.size(width, 800);
+    await wait(100);
+    assert.ok(await page.evaluate('document.documentElement.scrollWidth <= innerWidth'), `${width} px`);
+  }
+  await page.size(LARGE.width, LARGE.height);
+  await seek(30);
+  await wait(500);
+  if (pictures) await page.screenshot(path.join(pictures, 'desk-windows.png'));
+  assert.deepEqual(await unnamed(page), []);
+  const least = await leastContrast(page);
+  assert.ok(least.ratio >= 4.5, JSON.stringify(least));
+});
+
+/** Makes the receivers of window 4 trap, when asked to. */
+const TRAPPING = `const instantiate = WebAssembly.instantiate;
+WebAssembly.instantiate = async (module) => {
+  const { exports } = await instantiate(module);
+  const btpu_receive = (...words) => {
+    if (window.trapping && words[2] === 16384n) throw new WebAssembly.RuntimeError('asked for');
+    return exports.btpu_receive(...words);
+  };
+  return { exports: { ...exports, btpu_receive } };
+};`;
+
+test('a second board that fails is told, the first goes on, and Restart makes new receivers', async () => {
+  const other = await browser.page('about:blank');
+  try {
+    await other.send('Page.addScriptToEvaluateOnNewDocument', { source: TRAPPING });
+    await other.open(`${site.address}/desk.html`);
+    await other.until('document.body.dataset.ready');
+    await other.evaluate(`document.getElementById('mixed').click()`);
+    await other.until(`document.body.dataset.busy === 'no' && document.getElementById('seek').value === '54'`);
+    await other.evaluate(`document.getElementById('restart').click()`);
+    await other.until(`/54 frames ready/.test(document.getElementById('status').textContent)`);
+    for (let k = 0; k < 3; k++) await other.evaluate(`document.getElementById('step').click()`);
+    await other.evaluate(`window.trapping = true; document.getElementById('step').click()`);
+    const told = 'The second board failed at frame 4: the module trapped: asked for.';
+    assert.equal(await other.evaluate(`document.getElementById('status').textContent`), 'Frame 4: taken.');
+    assert.equal(await other.evaluate(`document.getElementById('verdict').textContent`), told);
+    await other.evaluate(`document.getElementById('end').click()`);
+    await other.until(`document.getElementById('seek').value === '54'`);
+    assert.equal(await other.evaluate(`document.querySelectorAll('#bundles > li').length`), 14);
+    assert.equal(await other.evaluate(`document.querySelectorAll('#lacking > li').length`), 0);
+    await other.evaluate(`window.trapping = false; document.getElementById('restart').click()`);
+    await other.until(`/54 frames ready/.test(document.getElementById('status').textContent)`);
+    await other.evaluate(`document.getElementById('end').click()`);
+    await other.until(`/The second board lacks 6 bundles/.test(document.getElementById('verdict').textContent)`);
+    assert.deepEqual(other.errors, []);
+  } finally {
+    await other.close();
+  }
 });
 
 test('bundles cut here are handed out; a frame size that is refused is said in words', async () => {
