@@ -230,14 +230,14 @@ for (const [draft, window] of [['02', 4], ['02', 8], ['02', 16], ['00', 4], ['00
   const name = `window-${draft}-${window}`, words = `now=06:00&draft=${draft}&window=${window}`;
   boardTest(`a window of ${window} in draft ${draft}: reloaded again and again, and as the native library hands the bundles out`, { name, words }, async (page) => {
     const frames = mixed[draft], native = natively(frames, { draft, window }), all = showingAll(native);
-    for (let k = 0; k < frames.length; k += 7) {
-      await feed(page, frames.slice(k, k + 7), { atOnce: true });
+    for (let k = 0; k < frames.length; k += 13) {
+      await feed(page, frames.slice(k, k + 13), { atOnce: true });
       await reopen(page, address(name, k % 2 === 0 ? words : `now=06:00&draft=${draft}`)); // the window may be named or not
     }
     const { counts, kind, status } = await shown(page);
     assert.deepEqual([counts['Bundles handed out'], counts.Window, counts.Draft], [`${native.bundles.length}`, `${window} transfers`, draft]);
     assert.deepEqual([kind, status], ['', 'Last received 06:00.']);
-    for (const { station } of all.timetables.slice(0, 3)) {
+    for (const { station } of all.timetables.slice(0, 2)) {
       await reopen(page, address(name, `${words}&station=${encodeURIComponent(station)}`));
       const { rows } = await shown(page);
       assert.ok(rows.length > 3);

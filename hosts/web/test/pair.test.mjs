@@ -55,26 +55,29 @@ function anyFrames(r, draft) {
 
 test('what a window cost, and what a board lacks, on the samples over good and bad links', async () => {
   const links = [GOOD, { ...GOOD, seed: 4, shuffle: 30 }, { seed: 133, lose: 30, double: 12, shuffle: 12, damage: 14 }];
+  const kinds = new Set();
   let dropped = 0, passed = 0, lacked = 0;
   for (const draft of DRAFTS) {
-    const kinds = await Promise.all(['mixed', 'late', 'sequence'].map((kind) => windowSample(kind, draft, module)));
-    for (const frames of [draft === '00' ? sample00 : sample, ...kinds]) {
+    const samples = await Promise.all(['mixed', 'late', 'sequence'].map((kind) => windowSample(kind, draft, module)));
+    for (const frames of [draft === '00' ? sample00 : sample, ...samples]) {
       for (const link of links) {
         const arrivals = overLink(frames, link), runs = await runsOf(arrivals, draft);
         for (const run of runs) holdCost(run, arrivals, { draft, window: run.windowSize });
         hold(runs, arrivals, draft, JSON.stringify(link));
         dropped += runs[0].counts.dropped;
         passed += runs[0].counts.passed;
+        for (const { bundle } of lackedBy(runs[0], runs[2])) kinds.add(reasonOf(runs[0], bundle.number).kind);
         lacked += lackedBy(runs[0], runs[2]).length;
       }
     }
   }
   assert.ok(dropped > 50 && passed > 200 && lacked > 50, `${dropped} dropped, ${passed} passed over, ${lacked} lacked`);
+  assert.deepEqual([...kinds].sort(), ['behind', 'freed']);
 });
 
 test('the same on random frames, of several transfers each, with hints, damage and jumps of the numbers', async () => {
   const seed = Number(process.env.BTPU_SEED ?? randomInt(1, 2 ** 32 - 1)), r = new Random(seed), kinds = new Set();
-  for (let n = 0; n < 20; n++) {
+  for (let n = 0; n < 12; n++) {
     const draft = DRAFTS[n % 2], arrivals = overLink(anyFrames(r, draft), GOOD), runs = await runsOf(arrivals, draft), context = `seed ${seed}, ${n}`;
     for (const run of runs) holdCost(run, arrivals, { draft, window: run.windowSize }, context);
     hold(runs, arrivals, draft, context);
@@ -82,7 +85,8 @@ test('the same on random frames, of several transfers each, with hints, damage a
       for (const { bundle } of lackedBy(board, other)) kinds.add(reasonOf(board, bundle.number).kind);
     }
   }
-  assert.ok(kinds.has('freed') && kinds.has('behind') && !kinds.has('open'), [...kinds].join());
+  // Where a transfer's pieces all came and none was lost to the window, no board lacks it.
+  assert.ok(kinds.size > 0 && !kinds.has('open'), `seed ${seed}: ${[...kinds].join()}`);
 });
 
 test('what a window cost where a limit of messages ends a run inside a frame', async () => {

@@ -1,4 +1,4 @@
-// The test vectors of harness/vectors, which come from another implementation, on the WebAssembly modules.
+// The test vectors of harness/vectors, which come from another implementation or were worked by hand, on the WebAssembly modules.
 import assert from 'node:assert/strict';
 import { createHash } from 'node:crypto';
 import fs from 'node:fs';
@@ -134,7 +134,7 @@ function expectedReceive(call) {
   return { returned: 0, result: [1n, BigInt(call.length), BigInt(call.next), number] };
 }
 
-function receiveVector(lender, call, state, pool, context) {
+function receiveVector(lender, call, window, state, pool, context) {
   const frame = typeof call.frame === 'string' ? octets(call.frame) : new Uint8Array(call.frame.len).fill(call.frame.fill);
   const output = new Uint8Array(call.out_len).fill(call.out_fill), result = BigUint64Array.from(UNTOUCHED);
   const lent = call.pool_len === undefined ? pool : resized(pool, call.pool_len), before = lent.slice();
@@ -147,13 +147,15 @@ function receiveVector(lender, call, state, pool, context) {
   if (call.pool_len !== undefined) assert.deepEqual(lent, before, `${context}: the other pool`);
   if (call.bundle !== undefined) assert.deepEqual(output.slice(0, call.length), octets(call.bundle), context);
   assert.equal(digest(serialised(state)), call.state_sha256, `${context}: state`);
+  assert.equal(state[1], window, `${context}: window`);
+  if (call.state_after !== undefined) assert.deepEqual(state, receiverImage(call.state_after, window), `${context}: state`);
   assert.equal(digest(pool), call.pool_sha256, `${context}: pool`);
   assert.equal(digest(output), call.output_sha256, `${context}: output`);
 }
 
 /** The vectors of a file; those that name no window are from before there were others than 16. */
 function receiverVectors(lender, file) {
-  const ran = { lines: 0, calls: 0, leftOut: [] };
+  const ran = { lines: 0, calls: 0, leftOut: [], windows: new Set() };
   for (const line of lines(file)) {
     const { window = 16 } = line;
     const beyond = line.state === 'start' ? null : beyondImage(line.state);
@@ -164,9 +166,10 @@ function receiverVectors(lender, file) {
     const state = line.state === 'start' ? new Uint8Array(IMAGE).fill(0xa5) : receiverImage(line.state, window);
     if (line.state === 'start') assert.equal(lender.call('btpu_receiver_start_window', [state, window]), 0);
     const pool = poolPattern(line.pool.len, line.pool.seed);
-    line.calls.forEach((call, k) => receiveVector(lender, call, state, pool, `${line.id} call ${k}`));
+    line.calls.forEach((call, k) => receiveVector(lender, call, window, state, pool, `${line.id} call ${k}`));
     ran.lines++;
     ran.calls += line.calls.length;
+    ran.windows.add(window);
   }
   return ran;
 }
@@ -211,7 +214,12 @@ for (const name of ['btpu.wasm', 'btpu-plain.wasm', 'btpu64.wasm']) {
 
   // Three lines are left out: no image can hold their states. The numbers are those of harness/tests/vectors.rs.
   test(`${name}: the receiver's vectors`, { skip }, async () => {
-    assert.deepEqual(receiverVectors(await started(), 'receiver.jsonl'), { lines: 347, calls: 5587, leftOut: ['length', 'count', 'index'] });
+    const leftOut = ['length', 'count', 'index'], windows = new Set([16]);
+    assert.deepEqual(receiverVectors(await started(), 'receiver.jsonl'), { lines: 347, calls: 5587, leftOut, windows });
+  });
+
+  test(`${name}: the vectors by window`, { skip }, async () => {
+    assert.deepEqual(receiverVectors(await started(), 'windows.jsonl'), { lines: 75, calls: 123, leftOut: [], windows: new Set([4, 8, 16]) });
   });
 
   test(`${name}: the sender's vectors`, { skip }, async () => {
@@ -220,6 +228,6 @@ for (const name of ['btpu.wasm', 'btpu-plain.wasm', 'btpu64.wasm']) {
 }
 
 test('no vector asks for refusal 5, which is never given', () => {
-  const refusals = lines('receiver.jsonl').flatMap((line) => line.calls.map((call) => call.no));
+  const refusals = ['receiver.jsonl', 'windows.jsonl'].flatMap(lines).flatMap((line) => line.calls.map((call) => call.no));
   assert.deepEqual(refusals.filter((number) => number === 5), []);
 });
