@@ -17,6 +17,7 @@ import { NOTHING, departuresFrom, showing, tableOf, textOf } from './timetable.m
 
 /** @typedef {import('./timetable.mjs').Shown} Shown */
 /** @typedef {import('./timetable.mjs').Departure} Departure */
+/** @typedef {import('./btpu.mjs').WindowSize} WindowSize */
 /**
  * Frames taken, refused and lost, and bundles handed out.
  * @typedef {{ taken: number, refused: number, lost: number, bundles: number }} Counts
@@ -41,7 +42,6 @@ const query = new URLSearchParams(location.search);
 const key = `btpu-board ${query.get('board') ?? ''}`.trim();
 /** Any other than 00 and 02 makes the board fail, in words. */
 const draft = /** @type {import('./btpu.mjs').Draft} */ (query.get('draft') ?? '02');
-/** @typedef {import('./btpu.mjs').WindowSize} WindowSize */
 /**
  * The window that the address asks for, if it names one; any other than 4, 8 and 16 makes the board fail, in words.
  * @type {WindowSize | undefined}
@@ -167,7 +167,8 @@ async function takeUp() {
     const head = `${VERSION} ${sumOf(text.slice(VERSION.length + 10))} `;
     if (!text.startsWith(head)) throw new Error('another version, or a wrong check sum');
     const kept = JSON.parse(text.slice(head.length)), saved = { image: fromBase64(kept.image), pool: fromBase64(kept.pool) };
-    const older = isOlder(saved);
+    // Kept before windows could be chosen, an image does not tell its window, which was 16 then.
+    const older = saved.image[WINDOW] === 0;
     if (older) saved.image[WINDOW] = OLDER_WINDOW;
     await goOn(saved);
     record = kept.record;
@@ -185,12 +186,6 @@ async function begin() {
   size = asked ?? SIZES.plainWindow;
   receiver = await Receiver.create({ draft, window: size }, module);
 }
-
-/**
- * Whether a receiver was kept before windows could be chosen: its image does not tell the window, which was 16 then.
- * @param {import('./btpu.mjs').SavedReceiver} saved
- */
-const isOlder = ({ image, pool }) => image[WINDOW] === 0 && pool.length === OLDER_WINDOW * SIZES.poolPerRow;
 
 /** Says that the receiver goes on from what was kept before windows could be chosen, and keeps it as what it is. */
 function tellOlder() {

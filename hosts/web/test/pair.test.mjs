@@ -9,7 +9,7 @@ import { hexOf, overLink } from '../frames.mjs';
 import { lackedBy, reasonOf } from '../pair.mjs';
 import { Run } from '../run.mjs';
 import { windowSample } from '../samples.mjs';
-import { cancel, chain, piece, sample, sample00 } from './common.mjs';
+import { cancel, piece, sample, sample00 } from './common.mjs';
 import { damaged, Random, someFrames, traffic } from './random-frames.mjs';
 import { lackingOf, nativelyCame, reckoned } from './reckoning.mjs';
 
@@ -120,7 +120,7 @@ const CASES = [
     { kind: 'freed', arrival: 1, by: 14, pieces: 1, passed: 1, last: 2, behind: 4 },
     'Its row was freed at frame 2, when transfer 14 came: 1 piece held was lost. 1 message of it came later, the last at frame 3, when it was 4 behind: this board goes back 3.'],
   ['a row that is freed by the frame that opened it', 8, 16,
-    [frame(piece(true, 5, 0, [1])), frame(piece(false, 10, 0, [2]), piece(false, 10, 2, [4]), piece(true, 18, 0, [1])), frame(piece(true, 10, 3, [], chain(2)), piece(false, 10, 1, [3]))],
+    [frame(piece(true, 5, 0, [1])), frame(piece(false, 10, 0, [2]), piece(false, 10, 2, [4]), piece(true, 18, 0, [1])), frame(piece(true, 10, 3, [], [3, 2, 9, 9, 2, 0]), piece(false, 10, 1, [3]))],
     { kind: 'freed', arrival: 1, by: 18, pieces: 2, passed: 2, last: 2, behind: 8 },
     'Its row was freed at frame 2, when transfer 18 came: 2 pieces held were lost. 2 messages of it came later, the last at frame 3, when it was 8 behind: this board goes back 7.'],
   // Half a turn and 3 ahead: new with a window of 16, outside with one of 4.
@@ -129,7 +129,7 @@ const CASES = [
     { kind: 'freed', arrival: 1, by: 10 + 2 ** 31 + 3, pieces: 1, passed: 0, last: 0, behind: 0 },
     'Its row was freed at frame 2, when transfer 2147483661 came: 1 piece held was lost.'],
   ['a number that the greater window takes for a new one', 4, 16,
-    [frame(piece(true, 10, 0, [1])), frame(cancel(10 + 2 ** 31 + 3)), frame(piece(true, 10, 0, [2]))],
+    [frame(piece(true, 10, 0, [1])), frame(cancel(10 + 2 ** 31 + 3)), frame(piece(true, 10, 0, [1]))],
     { kind: 'before', arrival: null, by: 0, pieces: 0, passed: 0, last: 0, behind: 0 },
     'A transfer of this number was handed out before, and a number is handed out once.'],
 ];
