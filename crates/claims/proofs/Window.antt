@@ -9,6 +9,7 @@ use borrow.Author.Tests.{eqb-true, eqb-false, eq-eqb, ne-eqb, le-ltb, lt-ltb, le
 use Rattle.octets.proofs.Flags.{bool, cond-elim}
 use Rattle.wire.specs.Message.{Message}
 use Rattle.window.specs.declared.Standing.the-variants.{Inside, New, Outside}
+use Rattle.window.proofs.Sizes.{window-range}
 use Rattle.window.proofs.Entering.{row-below}
 use Rattle.window.specs.Window.{Window, four, eight, sixteen, distance, standing, rowOf, ahead, enters}
 use Rattle.claims.specs.Record.{Transfers, numberAt, isLast, pieceAt}
@@ -35,9 +36,7 @@ module _ (T : Transfers) where
   behind-by g k lt h = omega (arith, T .few)
 
 pub window-size : (w : ℕ) → Window w → (0 < w) × (w ≤ 16) × (w / 2 ≤ 8)
-window-size _ four = (omega arith, omega arith, omega arith)
-window-size _ eight = (omega arith, omega arith, omega arith)
-window-size _ sixteen = (omega arith, omega arith, omega arith)
+window-size w win = let r : (4 ≤ w) × (w ≤ 16) = window-range w win in (omega arith, r .1, omega arith)
 
 -- rows, from the numbers' places
 row-number : (w : ℕ) → Window w → (n : ℕ) → n % 2 ^ 32 % w ≡ n % w

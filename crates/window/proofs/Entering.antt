@@ -8,6 +8,7 @@ use lib.Dec.{eqb, ltb, leb}
 use borrow.Author.Tests.{eqb-false, lt-ltb, le-ltb}
 use Rattle.octets.proofs.Flags.{bool}
 use Rattle.window.specs.declared.Standing.the-variants.{Inside, New, Outside}
+use Rattle.window.proofs.Sizes.{window-range}
 use Rattle.window.specs.Window.{Window, four, eight, sixteen, distance, standing, standingOf, rowOf, ahead, enters}
 
 pub row-below : (w : ℕ) → Window w → (n : ℕ) → rowOf w n < w
@@ -91,11 +92,6 @@ new-distance w d e h = go (bool (eqb d 0)) (bool (leb d (2147483647 + w / 2))) (
     go (inr a) (inr b) (inl c) = let z : Outside ≡ New e = rw (a, b, c) at h in absurd (let y : _≡_ {A = ℕ} 0 1 = cc in omega arith)
     go (inr a) (inr b) (inr c) = let z : Inside ≡ New e = rw (a, b, c) at h in absurd (let y : _≡_ {A = ℕ} 0 1 = cc in omega arith)
 
-at-least : (w : ℕ) → Window w → 1 < w
-at-least w four = omega arith
-at-least w eight = omega arith
-at-least w sixteen = omega arith
-
 pub entered : (w : ℕ) → Window w → (present : Bool) (g t d : ℕ) → g < 2 ^ 32 → t < 2 ^ 32 → standingOf w present g t ≡ New d → Entered w g t d
 unfolding standingOf
 entered w win true g t d g< t< h =
@@ -107,7 +103,7 @@ entered w win true g t d g< t< h =
     }
 entered w win false g t d g< t< h =
     let e : w ≡ d = cc in
-    let one = at-least w win in
+    let some : 4 ≤ w = window-range w win .0 in
     record { some = omega arith; own = all-enter w win g d (rowOf w t) (row-below w win t) (omega arith); others = λ q. absurd (omega arith) }
 
 -- a number is inside only where there is a greatest number
