@@ -1,4 +1,6 @@
 // The burst call: up to 64 frames in one call (document 02, E3).
+#![tactic(auto)]
+
 ghost use Rattle.std.specs.Prelude.{◌≡◌, ◌≤◌, length, drop};
 ghost use Rattle.octets.specs.Octets.{sum_of};
 ghost use Rattle.rows.specs.State.{window_of};
@@ -20,7 +22,7 @@ pub const BUNDLES_MAX: usize = 256;
 const MESSAGES_LIMIT: usize = 4194304;
 
 // Refusals 1, 2, 3, 19 and 9, in this order.
-#[derive(Drop)]
+#[derive(Clone, Copy)]
 pub enum Refusal {
     Unsound,
     BufferSize,
@@ -31,7 +33,7 @@ pub enum Refusal {
 
 // Taken: how many bundles are out and how many octets they have, the frame and the place where the next call goes on, and how many frames
 // were refused.
-#[derive(Drop)]
+#[derive(Clone, Copy)]
 pub enum Answer {
     Taken {
         bundles: usize,
@@ -43,13 +45,13 @@ pub enum Answer {
     Refused(Refusal),
 }
 
-#[derive(Drop)]
+#[derive(Clone, Copy)]
 pub struct Burst {
     pub answer: Answer,
     pub state: State,
 }
 
-#[derive(Drop)]
+#[derive(Clone, Copy)]
 enum Admission {
     Admitted,
     Denied(Refusal),

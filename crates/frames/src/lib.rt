@@ -1,4 +1,6 @@
 // Frames one after another, as their lengths and their joined octets: the loop under the burst call and under playback.
+#![tactic(auto)]
+
 ghost use Rattle.std.specs.Prelude.{◌≡◌, ◌&&◌, ◌+◌, ◌≤◌, length, set, ltb};
 ghost use Rattle.octets.specs.Octets.{sum_of};
 ghost use Rattle.rows.specs.State.{window_of};
@@ -14,7 +16,7 @@ use rows::State;
 use wire::Version;
 
 // How far the frames were taken: the frame to go on with, the place in it in the progress, and how many were refused.
-#[derive(Drop)]
+#[derive(Clone, Copy)]
 pub struct Reached {
     pub state: State,
     pub progress: Progress,

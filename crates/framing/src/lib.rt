@@ -1,4 +1,6 @@
 // A sender's state, the answers of its calls, and the steps that add one message or one padding to its frame (document 01, "Sending calls").
+#![tactic(auto)]
+
 ghost use Rattle.std.specs.Prelude.{◌≡◌, ℕ, ◌+◌, ◌-◌, ◌<◌, ◌≤◌, List, length};
 ghost use Rattle.wire.specs.Message as Message;
 ghost use Rattle.framing.specs.Answers.{refusal_number, outcome};
@@ -7,7 +9,7 @@ ghost use Rattle.framing.specs.Placing as Placing;
 use wire::Version;
 
 // A sender: frame size P, fill f, the next transfer number, the transfer begun if there is one, and the draft.
-#[derive(Drop)]
+#[derive(Clone, Copy)]
 pub struct State {
     pub size: usize,
     pub fill: usize,
@@ -21,7 +23,7 @@ pub struct State {
 }
 
 // Refusals 1 and 10 to 14 of document 01, in that order.
-#[derive(Drop)]
+#[derive(Clone, Copy)]
 pub enum Refusal {
     Unsound,
     WrongBuffer,
@@ -31,7 +33,7 @@ pub enum Refusal {
     FrameSize,
 }
 
-#[derive(Drop)]
+#[derive(Clone, Copy)]
 pub enum Answer {
     Placed,
     PlacedReady,
@@ -41,7 +43,7 @@ pub enum Answer {
 }
 
 // What a step returns, as place, cancel and flush do.
-#[derive(Drop)]
+#[derive(Clone, Copy)]
 pub struct Sent {
     pub answer: Answer,
     pub state: State,

@@ -1,6 +1,8 @@
 // The frames of document 01's marked cases taken by a fresh receiver from place 0: M1 to M12 by one as a plain start leaves it; M5 takes two
 // frames in a row. M13 by one of window 16, and by one of the plain window, of which 9 behind is outside: first 3 is the greatest number,
 // then comes 4,294,967,290.
+#![tactic(auto)]
+
 use libc::STDOUT_FILENO;
 use receiver::{Answer, Origin, Refusal, State};
 use wire::Version;

@@ -1,4 +1,6 @@
 // The message loop: messages of a frame treated one after the other (document 01, "Receiving call").
+#![tactic(auto)]
+
 ghost use Rattle.std.specs.Prelude.{◌≡◌, true, ◌&&◌, ◌+◌, ◌*◌, ◌≤◌, ◌<◌, ◌^◌, length, set, ltb};
 ghost use Rattle.wire.specs.Frame.{checked, frame_max};
 ghost use Rattle.wire.specs.declared.Checked.TheVariants as Frame;
@@ -15,7 +17,7 @@ use rows::{Act, Origin, Settings, State, Visit};
 use wire::{Kind, Reading, Version};
 
 // Messages treated, bundles handed out, their octets, the next message's start, and the last bundle's origin.
-#[derive(Drop)]
+#[derive(Clone, Copy)]
 pub struct Progress {
     pub treated: usize,
     pub count: usize,
@@ -25,13 +27,13 @@ pub struct Progress {
 }
 
 // The most messages and the most bundles.
-#[derive(Drop)]
+#[derive(Clone, Copy)]
 pub struct Limits {
     pub messages: usize,
     pub bundles: usize,
 }
 
-#[derive(Drop)]
+#[derive(Clone, Copy)]
 pub struct Ran {
     pub progress: Progress,
     pub state: State,

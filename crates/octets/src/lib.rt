@@ -1,4 +1,6 @@
 // Runs of octets: reading and writing a number, copying a run to an offset, and zeros up to the end.
+#![tactic(auto)]
+
 ghost use Rattle.std.specs.Prelude.{◌≡◌, ◌+◌, ◌-◌, ◌*◌, ◌≤◌, ◌<◌, length, take, drop, replicate};
 ghost use Rattle.octets.specs.Octets.{number, number16, be32, be16, spread, sum_of, put, copy_max};
 

@@ -1,4 +1,6 @@
 // The pieces of one transfer in order of arrival, as a list of indexes and a list of lengths: searching, counting and joining them.
+#![tactic(auto)]
+
 ghost use Rattle.std.specs.Prelude.{◌≡◌, ◌&&◌, ◌+◌, ◌≤◌, ◌<◌, length, take, drop, replicate};
 ghost use Rattle.octets.specs.Octets.{put, sum_of};
 ghost use Rattle.pieces.specs.Pieces as Spec;
@@ -10,14 +12,14 @@ ghost use Rattle.pieces.specs.Search as Search;
 pub const BUNDLE_MAX: usize = 4096;
 
 // The order of index in which pieces are joined.
-#[derive(Drop)]
+#[derive(Clone, Copy)]
 pub enum Order {
     Rising,
     Falling,
 }
 
 // Whether an index is held, and whether one above it is.
-#[derive(Drop)]
+#[derive(Clone, Copy)]
 pub struct Scan {
     pub held: bool,
     pub above: bool,

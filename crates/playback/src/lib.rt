@@ -1,4 +1,6 @@
 // Playback of a recording on a fresh receiver (document 02, E1).
+#![tactic(auto)]
+
 ghost use Rattle.std.specs.Prelude.{◌≡◌, ◌≤◌, length};
 ghost use Rattle.octets.specs.Octets.{sum_of};
 ghost use Rattle.recording.specs.Recording.{frames_max, octets_max};
@@ -24,7 +26,7 @@ const BUNDLES_LIMIT: usize = 15361;
 const BUFFER: usize = 65536;
 
 // Refusals 16 to 20, then 2, then 24.
-#[derive(Drop)]
+#[derive(Clone, Copy)]
 pub enum Refusal {
     Unreadable(recording::Refusal),
     PoolSize,
@@ -32,7 +34,7 @@ pub enum Refusal {
 }
 
 // Played: how many messages were treated, how many bundles and octets of them are out, and how many frames were refused.
-#[derive(Drop)]
+#[derive(Clone, Copy)]
 pub enum Answer {
     Played {
         messages: usize,

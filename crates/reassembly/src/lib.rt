@@ -1,4 +1,6 @@
 // What a cancel, a segment or an end does to a row and its cell, and the bundle that it completes.
+#![tactic(auto)]
+
 ghost use Rattle.std.specs.Prelude.{◌≡◌, true, ◌+◌, ◌≤◌, ◌<◌, length};
 ghost use Rattle.octets.specs.Octets.{put, sum_of};
 ghost use Rattle.pieces.specs.Pieces.{bundle_max};
@@ -9,14 +11,14 @@ use pieces::Order;
 use row::{Phase, Row, Verdict};
 
 // What a message completes: a bundle of a length, or nothing.
-#[derive(Drop)]
+#[derive(Clone, Copy)]
 pub enum Delivery {
     Nothing,
     Bundle(usize),
 }
 
 // What a segment or an end leaves of its row, and what it completes.
-#[derive(Drop)]
+#[derive(Clone, Copy)]
 pub struct Taken {
     pub delivery: Delivery,
     pub row: Row,

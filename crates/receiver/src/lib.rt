@@ -1,4 +1,6 @@
 // The receiver: start and the receiving call (document 01, "Receiving call").
+#![tactic(auto)]
+
 ghost use Rattle.std.specs.Prelude.{◌≡◌, ◌*◌};
 ghost use Rattle.wire.specs.declared.Version.TheVariants.{Draft02};
 ghost use Rattle.window.specs.Window.{plain_window};
@@ -16,7 +18,7 @@ pub use rows::{Origin, Settings, State};
 use wire::{Checked, FRAME_MAX, Fault, Version};
 
 // Refusals 1, 2, 3, 4 to 8 with the first bad message's start, and 9.
-#[derive(Drop)]
+#[derive(Clone, Copy)]
 pub enum Refusal {
     Unsound,
     BufferSize,
@@ -26,7 +28,7 @@ pub enum Refusal {
 }
 
 // Delivered: a bundle of this length, the next place, and where the bundle comes from.
-#[derive(Drop)]
+#[derive(Clone, Copy)]
 pub enum Answer {
     Delivered {
         length: usize,
@@ -37,21 +39,21 @@ pub enum Answer {
     Refused(Refusal),
 }
 
-#[derive(Drop)]
+#[derive(Clone, Copy)]
 pub struct Received {
     pub answer: Answer,
     pub state: State,
 }
 
 // Whether a call treats its frame.
-#[derive(Drop)]
+#[derive(Clone, Copy)]
 pub enum Admission {
     Admitted,
     Denied(Refusal),
 }
 
 // Refusal 21, or 0, and the state. The state of a refused start is not sound: every call refuses it.
-#[derive(Drop)]
+#[derive(Clone, Copy)]
 pub struct Started {
     pub refusal: u32,
     pub state: State,

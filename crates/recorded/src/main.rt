@@ -1,4 +1,6 @@
 // Writes six frames as a recording, reads it back, and plays it with several limits; then octets that are no recording, refused with 16 to 20.
+#![tactic(auto)]
+
 ghost use Rattle.std.specs.Prelude.{◌≤◌, length};
 
 use libc::STDOUT_FILENO;

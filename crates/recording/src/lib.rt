@@ -1,4 +1,6 @@
 // Recordings: frames in a file (document 02, E1).
+#![tactic(auto)]
+
 ghost use Rattle.std.specs.Prelude.{◌≡◌, ◌+◌, ◌*◌, ◌≤◌, length, drop};
 ghost use Rattle.octets.specs.Octets.{pairs, put};
 ghost use Rattle.recording.specs.Recording as Spec;
@@ -12,7 +14,7 @@ pub const FRAMES_MAX: usize = 1024;
 pub const OCTETS_MAX: usize = 61440;
 
 // Refusals 16 to 20, and 24.
-#[derive(Drop)]
+#[derive(Clone, Copy)]
 pub enum Refusal {
     CutShort,
     OverLimit,
@@ -36,27 +38,27 @@ pub fn refusal_number(refusal: Refusal) -> u32
 }
 
 // Whether lengths and octets belong together.
-#[derive(Drop)]
+#[derive(Clone, Copy)]
 enum Verdict {
     Fit,
     Unfit(Refusal),
 }
 
 // A recording that was read. Its octets start at 8 + 2 * frames.
-#[derive(Drop)]
+#[derive(Clone, Copy)]
 pub enum Opening {
     Good { frames: usize, octets: usize },
     Unreadable(Refusal),
 }
 
 // The lengths of the frames, and zeros behind them.
-#[derive(Drop)]
+#[derive(Clone, Copy)]
 pub struct Opened {
     pub answer: Opening,
     pub lengths: [u16; FRAMES_MAX],
 }
 
-#[derive(Drop)]
+#[derive(Clone, Copy)]
 pub enum Writing {
     Written { octets: usize },
     Refused(Refusal),

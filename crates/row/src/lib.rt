@@ -1,4 +1,6 @@
 // The row of one transfer: its phase and pieces, the verdict of the row rules on a segment or an end, and what makes a row sound.
+#![tactic(auto)]
+
 ghost use Rattle.std.specs.Prelude.{◌≡◌, true, false, ◌≤◌};
 ghost use Rattle.pieces.specs.Pieces.{has_above};
 ghost use Rattle.row.specs.Row as Spec;
@@ -6,7 +8,7 @@ ghost use Rattle.row.specs.Row as Spec;
 use pieces::{BUNDLE_MAX, Scan};
 
 // What a row is about. Abandoned is document 01's "Given up".
-#[derive(Drop)]
+#[derive(Clone, Copy)]
 pub enum Phase {
     Free,
     Open,
@@ -18,7 +20,7 @@ pub enum Phase {
 // The pieces held, in order of arrival: the first `held` entries of indexes and lengths.
 // The final index has a meaning where it is known. The count stands between the arrays: the compiler then copies each of them by itself,
 // without a call.
-#[derive(Drop)]
+#[derive(Clone, Copy)]
 pub struct Row {
     pub phase: Phase,
     pub known: bool,
@@ -29,7 +31,7 @@ pub struct Row {
 }
 
 // What the row rules say of a segment or an end. Accepts: its data goes to this offset of the cell.
-#[derive(Drop)]
+#[derive(Clone, Copy)]
 pub enum Verdict {
     Stays,
     Abandons,

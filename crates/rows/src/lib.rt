@@ -1,5 +1,7 @@
 // A receiver's state: the greatest number, a row for each number of the window, and the settings. Which states are sound, which rows a new
 // number frees, and where a message goes (document 01, "Transfer window" and "Sound state").
+#![tactic(auto)]
+
 ghost use Rattle.std.specs.Prelude.{◌≡◌, true, cond, length, ltb};
 ghost use Rattle.wire.specs.Layout.{fitting, message};
 ghost use Rattle.window.specs.Window.{is_window, standing_of};
@@ -14,7 +16,7 @@ use window::Standing;
 use wire::{Kind, Version};
 
 // What is chosen at start and stays.
-#[derive(Drop)]
+#[derive(Clone, Copy)]
 pub struct Settings {
     pub version: Version,
     pub window: u32,
@@ -22,7 +24,7 @@ pub struct Settings {
 
 // The greatest transfer number, where there is one yet, a row for each number of the window, and the settings. Rows beyond the window carry
 // no meaning and are free.
-#[derive(Drop)]
+#[derive(Clone, Copy)]
 pub struct State {
     pub present: bool,
     pub greatest: u32,
@@ -31,7 +33,7 @@ pub struct State {
 }
 
 // Where a bundle comes from: a bundle message, or a transfer with its number.
-#[derive(Drop)]
+#[derive(Clone, Copy)]
 pub enum Origin {
     Whole,
     Transfer(u32),
@@ -39,7 +41,7 @@ pub enum Origin {
 
 // What a message does: nothing, where it is passed over or outside the window; or hand out its content; or bring its row a piece, of an
 // end or of a segment; or cancel its row.
-#[derive(Drop)]
+#[derive(Clone, Copy)]
 pub enum Act {
     Pass,
     HandOut,
@@ -49,7 +51,7 @@ pub enum Act {
 
 // What a message does, the row that it goes to, how many numbers enter the window for it, the window after it, and the origin of
 // its bundle.
-#[derive(Drop)]
+#[derive(Clone, Copy)]
 pub struct Visit {
     pub act: Act,
     pub slot: usize,

@@ -1,4 +1,6 @@
 // The sending calls of document 01, "Sending calls".
+#![tactic(auto)]
+
 ghost use Rattle.std.specs.Prelude.{◌≡◌, ◌≤◌, ◌<◌};
 ghost use Rattle.wire.specs.declared.Version.TheVariants.{Draft02};
 ghost use Rattle.framing.specs.Answers.{outcome};
@@ -12,7 +14,7 @@ use wire::Version;
 
 const BUNDLE_MAX: usize = 4096;
 
-#[derive(Drop)]
+#[derive(Clone, Copy)]
 pub enum Started {
     Made(State),
     Refused(Refusal),

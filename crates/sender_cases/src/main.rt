@@ -1,4 +1,6 @@
 // Runs the cases of document 01, "Marked cases", "By program": each call's answer, the fill that it leaves, and the frame.
+#![tactic(auto)]
+
 ghost use Rattle.std.specs.Prelude.{◌<◌, ◌≤◌, length};
 
 use libc::STDOUT_FILENO;

@@ -1,9 +1,11 @@
 // The transfer window: how a transfer number stands to the greatest number, and the row that it owns.
+#![tactic(auto)]
+
 ghost use Rattle.std.specs.Prelude.{◌≡◌, ◌≤◌, true};
 ghost use Rattle.window.specs.Window as Spec;
 
 // New: so many numbers enter the window, this one the last of them.
-#[derive(Drop)]
+#[derive(Clone, Copy)]
 pub enum Standing {
     Inside,
     New(u32),

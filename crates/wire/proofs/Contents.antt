@@ -69,15 +69,8 @@ pub skip : (at size : ℕ) (k : Kind) (c : Chain) → k ≡ Skipped → Good rec
 unfolding body answer span kind content_length
 skip at size k c e = rw e (placed refl (omega arith) (omega arith))
 
--- a tag that is none of the first variant's
-pub not-zero : {t : ℕ} → (t ≡ 1) ⊎ ((t ≡ 2) ⊎ ((t ≡ 3) ⊎ (t ≡ 4))) → t ≡ 0 → ⊥
-not-zero (inl a) e = omega arith
-not-zero (inr (inl a)) e = omega arith
-not-zero (inr (inr (inl a))) e = omega arith
-not-zero (inr (inr (inr a))) e = omega arith
-
 abbrev pub carrying : Kind → Type 0
-carrying k = tag_of the_type k ≡ 0 → ⊥
+carrying k = k ≡ Skipped → ⊥
 
 carried : (k : Kind) (c : Chain) (size : ℕ) → carrying k → body k c size ≡ content k c size
 unfolding body

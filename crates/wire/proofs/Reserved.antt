@@ -105,11 +105,11 @@ follow_taking p f g takes e = ap (prepend _) e
 
 same_scan : {xs ys : List ℕ} → SameButReserved xs ys → (n p : ℕ) → scan (read Draft02) n p xs ≡ scan (read Draft02) n p ys
 unfolding scan read follow length_field
-same_scan r zero p = refl
-same_scan (same xs) (suc n) p = refl
-same_scan (padded {xs} {ys} r) (suc n) p =
+same_scan {xs = xs} {ys = ys} r zero p = refl
+same_scan {xs = us} {ys = vs} (same xs) (suc n) p = refl
+same_scan {xs = us} {ys = vs} (padded {xs} {ys} r) (suc n) p =
     let e : 1 + zeros xs ≡ suc (zeros xs) = omega arith in
-    rw (← same-zeros r, e) (ap (prepend _) (same_scan (behind_zeros r) n (p + suc (zeros xs))))
+    rw (← same-zeros r, e) (ap (prepend _) (same_scan {xs = drop (zeros xs) xs} {ys = drop (zeros xs) ys} (behind_zeros r) n (p + suc (zeros xs))))
 same_scan (headed {xs} {ys} t x bits a b e r) (suc n) p =
     let us : List ℕ = suc t ∷ x ∷ a ∷ b ∷ xs in
     let vs : List ℕ = suc t ∷ with_reserved bits x ∷ a ∷ b ∷ ys in

@@ -67,10 +67,10 @@ module _ (k : Kind) (size : ℕ) (xs : List ℕ) (carries : carrying k) (room : 
 holds-body : (k : Kind) (size : ℕ) (xs : List ℕ) → 4 + size ≤ length xs → (c : Chain) → Tail (take size (drop 4 xs)) c → Holds xs (body k c (4 + size))
 unfolding body
 holds-body Skipped size xs h c t = holds-skipped xs (4 + size) (omega arith) h
-holds-body Bundle size xs h c t = holds-content Bundle size xs (λ e. omega arith) h c t
-holds-body Segment size xs h c t = holds-content Segment size xs (λ e. omega arith) h c t
-holds-body End size xs h c t = holds-content End size xs (λ e. omega arith) h c t
-holds-body Cancel size xs h c t = holds-content Cancel size xs (λ e. omega arith) h c t
+holds-body Bundle size xs h c t = holds-content Bundle size xs (λ e. (cc)) h c t
+holds-body Segment size xs h c t = holds-content Segment size xs (λ e. (cc)) h c t
+holds-body End size xs h c t = holds-content End size xs (λ e. (cc)) h c t
+holds-body Cancel size xs h c t = holds-content Cancel size xs (λ e. (cc)) h c t
 
 holds-headed : (v : Version) (xs : List ℕ) → Holds xs (headed v xs)
 unfolding headed bodied

@@ -1,4 +1,6 @@
 // The messages of a frame: reading one, checking a whole frame (document 01, "Octets of a frame").
+#![tactic(auto)]
+
 ghost use Rattle.std.specs.Prelude.{◌≡◌, ◌+◌, ◌≤◌, ◌<◌, length, drop};
 ghost use Rattle.wire.specs.declared.Version.TheVariants.{Draft00, Draft02};
 ghost use Rattle.wire.specs.Message.{answer, fault_number};
@@ -10,13 +12,13 @@ ghost use Rattle.wire.specs.Frame.{checked, reading_checked};
 pub const FRAME_MAX: usize = 2048;
 
 // The drafts of the protocol: document 000, and document 003 as document 01 narrows it.
-#[derive(Drop)]
+#[derive(Clone, Copy)]
 pub enum Version {
     Draft00,
     Draft02,
 }
 
-#[derive(Drop)]
+#[derive(Clone, Copy)]
 pub enum Kind {
     Skipped,
     Bundle,
@@ -26,7 +28,7 @@ pub enum Kind {
 }
 
 // Refusals 4, 6, 7 and 8 of document 01, in that order; 5 is never given.
-#[derive(Drop)]
+#[derive(Clone, Copy)]
 pub enum Fault {
     ShortHeader,
     PastFrame,
@@ -35,28 +37,28 @@ pub enum Fault {
 }
 
 // A message whose content is frame[start..end]; the next message starts at end.
-#[derive(Drop)]
+#[derive(Clone, Copy)]
 pub struct Span {
     pub kind: Kind,
     pub start: usize,
     pub end: usize,
 }
 
-#[derive(Drop)]
+#[derive(Clone, Copy)]
 pub enum Reading {
     Good(Span),
     Bad(Fault),
 }
 
 // How many octets the hint chain leaves of a message, if it stays within it.
-#[derive(Drop)]
+#[derive(Clone, Copy)]
 enum Hints {
     Left(usize),
     Overrun,
 }
 
 // Malformed: refusals 4 to 8, with the first bad message's start. Misplaced: refusal 9.
-#[derive(Drop)]
+#[derive(Clone, Copy)]
 pub enum Checked {
     Accepted,
     Malformed(Fault, usize),

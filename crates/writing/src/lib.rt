@@ -1,4 +1,6 @@
 // Writing the messages of a sender at an offset of a frame buffer.
+#![tactic(auto)]
+
 ghost use Rattle.std.specs.Prelude.{◌≡◌, ◌+◌, ◌-◌, ◌≤◌, ◌<◌, length};
 ghost use Rattle.wire.specs.declared.Version.{Version};
 ghost use Rattle.octets.specs.Octets.{put, copy_max};

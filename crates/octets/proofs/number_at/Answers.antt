@@ -1,0 +1,10 @@
+-- `octets::number_at` meets its contract.
+use native.Mathlib.Nat.{add-zero}
+use native.Mathlib.Omega.{arith}
+use lib.Seq.{get_or-drop}
+use Rattle.octets.specs.Octets.{number}
+use Rattle.octets.proofs.number_at.Goals as goal
+
+pub returns : goal.returns
+unfolding number
+returns c = simp (get_or-drop, add-zero) (omega arith)
