@@ -1,0 +1,13 @@
+-- `framing::advanced` meets its contract.
+use Rattle.std.proofs.Common.{rules, eq-eqb, ne_eqb}
+use Rattle.framing.specs.Answers.{reply}
+use Rattle.framing.specs.Placing.{advanced}
+use Rattle.framing.proofs.advanced.Goals as goal
+
+pub returns-then-fill-s : goal.returns-then-fill-s
+unfolding advanced reply
+returns-then-fill-s c = λ d. rw (eq-eqb _ _ c.if-fill-s.true, c.with_fill.ensures)
+
+pub returns : goal.returns
+unfolding advanced reply
+returns c = λ d. rw (ne_eqb _ _ c.if-fill-s.false, c.with_fill-2.ensures)

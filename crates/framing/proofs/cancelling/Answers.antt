@@ -1,0 +1,17 @@
+-- `framing::cancelling` meets its contract.
+use Rattle.std.proofs.Common.{sym, arith, rules}
+use Rattle.wire.specs.Message as Message
+use Rattle.wire.specs.Message.{content_length}
+use Rattle.writing.proofs.Written.{length-written}
+use Rattle.framing.specs.Placing.{ended}
+use Rattle.framing.proofs.Steps.{is-added}
+use Rattle.framing.proofs.cancelling.Goals as goal
+
+pub advanced-requires : goal.advanced-requires
+advanced-requires c = rw c.ended.ensures (omega arith)
+
+pub returns : goal.returns
+unfolding content_length
+returns c =
+    let a = c.args in
+    is-added _ (ended a.s) _ 8 (Message.cancel a.s.number) a.frame.now _ c.ended.ensures c.advanced.ensures (sym (length-written a.s.version (Message.cancel a.s.number))) (c.put_cancel.ensures a.s.version)

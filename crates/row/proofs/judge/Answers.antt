@@ -1,0 +1,11 @@
+-- `row::judge` meets its contract. By the phase. Assumes nothing.
+use Rattle.row.specs.Row.{judge}
+use Rattle.row.proofs.judge.Goals as goal
+
+pub returns-then-is_live : goal.returns-then-is_live
+unfolding judge
+returns-then-is_live c = rw (← c.is_live.ensures, c.if-is_live.true) c.judge_live.ensures
+
+pub returns : goal.returns
+unfolding judge
+returns c = rw (← c.is_live.ensures, c.if-is_live.false)
