@@ -1,0 +1,26 @@
+-- `images::receiving::phase_of` meets its contract.
+use borrow.Author.Tests.{eq-eqb, ne_eqb}
+use Rattle.images.specs.Receiver.{phase_of}
+use Rattle.images.proofs.receiving.phase_of.Goals as goal
+
+pub returns-then-code-eq1 : goal.returns-then-code-eq1
+unfolding phase_of
+returns-then-code-eq1 c = rw (eq-eqb _ _ c.if-code-eq1.true)
+
+pub returns-then-code-eq2 : goal.returns-then-code-eq2
+unfolding phase_of
+returns-then-code-eq2 c = rw (ne_eqb _ _ c.if-code-eq1.false, eq-eqb _ _ c.if-code-eq2.true)
+
+pub returns-then-code-eq3 : goal.returns-then-code-eq3
+unfolding phase_of
+returns-then-code-eq3 c = rw (ne_eqb _ _ c.if-code-eq1.false, ne_eqb _ _ c.if-code-eq2.false, eq-eqb _ _ c.if-code-eq3.true)
+
+pub returns-then-code-eq4 : goal.returns-then-code-eq4
+unfolding phase_of
+returns-then-code-eq4 c =
+    rw (ne_eqb _ _ c.if-code-eq1.false, ne_eqb _ _ c.if-code-eq2.false, ne_eqb _ _ c.if-code-eq3.false, eq-eqb _ _ c.if-code-eq4.true)
+
+pub returns : goal.returns
+unfolding phase_of
+returns c =
+    rw (ne_eqb _ _ c.if-code-eq1.false, ne_eqb _ _ c.if-code-eq2.false, ne_eqb _ _ c.if-code-eq3.false, ne_eqb _ _ c.if-code-eq4.false)
