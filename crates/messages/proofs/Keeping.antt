@@ -24,5 +24,5 @@ module _ (w : ℕ) (order : Order) (limits : Limits) where
   run-keeps p [] = refl
   run-keeps p (i ∷ is) =
       cond_elim (λ (q : Run). settings_of q.board ≡ settings_of p.board) (roomy p.progress limits (length p.output))
-      (λ _. run-keeps _ is ∙ rw (advanced_board p (step w order p.board i.message).board i.next (step w order p.board i.message).handed) (step_keeps w order p.board i.message))
+      (λ _. run-keeps (advanced p (step w order p.board i.message).board i.next (step w order p.board i.message).handed) is ∙ rw (advanced_board p (step w order p.board i.message).board i.next (step w order p.board i.message).handed) (step_keeps w order p.board i.message))
       λ _. refl

@@ -146,7 +146,7 @@ module _ {limits : Limits} {frame : List ℕ} {p₀ p : Run} (T : Turn limits fr
   abbrev w : ℕ
   w = width_of p₀
 
-  win : Window w
+  pub win : Window w
   win = rw (← G.ready.window) (sound-window p.board.state G.ready.sound)
 
   abbrev m : Span

@@ -1,0 +1,240 @@
+use mathlib.Core.Bool.{false}
+use mathlib.Core.List.{List, []}
+use mathlib.Core.Path.{◌≡◌, refl, sym, ap, ◌∙◌}
+use Prim.Native.Nat.{◌+◌, ◌≤◌, ℕ, ◌-◌, ◌^◌, ◌<◌}
+use native.Mathlib.Omega.{arith}
+use lib.ListN.{get_or, set, length}
+use Rattle.wire.specs.Layout.{read}
+use Rattle.window.specs.Window.{Window, is_window}
+use Rattle.window.proofs.Sizes.{is_window_lem, window_range}
+use Rattle.pieces.specs.declared.Order.{Order}
+use Rattle.pieces.specs.Pieces.{bundle_max}
+use Rattle.row.specs.Row.{empty_row}
+use Rattle.row.specs.declared.Phase.TheVariants.{Free}
+use Rattle.row.specs.declared.Row.{Row}
+use Rattle.row.proofs.Shaped.{Shaped}
+use Rattle.reassembly.specs.declared.Delivery.{Delivery}
+use Rattle.reassembly.specs.declared.Delivery.TheVariants.{Nothing}
+use Rattle.rows.specs.Message.{order_of}
+use Rattle.rows.specs.declared.Origin.{Origin}
+use Rattle.rows.specs.declared.Origin.TheVariants.{Whole}
+use Rattle.rows.specs.declared.Visit.{Visit}
+use Rattle.rows.proofs.Rows.{length_mapped, get_d_any, sound-window}
+use Rattle.messages.specs.Run.{progressed, size, Run, going}
+use Rattle.messages.specs.declared.Progress.{Progress}
+use Rattle.messages.proofs.Looping.{goes_on, progressed-next, begins, ends, some_left, never_bad, passed, turned, v, at<, treated<, count<, room, place, slot<, fits, admit, found-sound, handed-fits, win, Going, Turn}
+use Rattle.messages.proofs.Cells.{cell-within}
+use Rattle.messages.proofs.Visits.{visited, rows_for, rows-for-full, cleared, cleared-some, cleared-none, opened, opened_some, opened-none}
+use borrow.Author.Rules.{rules}
+use Rattle.wire.specs.declared.Version.{Version}
+use Rattle.messages.specs.declared.Limits.{Limits}
+use Rattle.reassembly.specs.declared.Taken.{Taken}
+use Rattle.messages.proofs.run.Goals as goal
+use Rattle.messages.proofs.run.Goals.{In-Good, Joined-v-gt1, Joined-v-gt0, After-cell_turn-t, then-v-gt1, else-v-gt1, then-v-gt0, else-v-gt0, else-loop-limits-test, then-loop-limits-test+in_default}
+
+-- ---- a turn: the message that is read
+
+module _ (c : In-Good) where
+  abbrev first : Run
+  first = let a = c.args in going a.state a.pool.now a.output.now a.lengths.now a.numbers.now a.from
+
+  abbrev now : Run
+  now = let l = c.loop-limits in going (record { present = l.present; greatest = l.greatest; rows = l.rows; settings = c.args.state.settings }) l.pool l.output l.lengths l.numbers l.progress
+
+  abbrev turn : Turn c.args.limits c.args.frame.now first now
+  turn = record {
+    going = c.loop-limits.invariant;
+    test = sym c.more.ensures ∙ c.loop-limits-test.true;
+    span = c.in-Good.m;
+    told = sym c.read_message.ensures ∙ c.in-Good.is;
+  }
+
+  small : length c.args.frame.now ≤ bundle_max
+  small = omega (arith, c.requires.1)
+
+  limits : (c.args.limits.messages < 2 ^ 64) × (c.args.limits.bundles < 2 ^ 64) × (length c.args.output.now < 2 ^ 64)
+  limits = search rules
+
+  counted : now.progress.treated + 1 < 2 ^ 64
+  counted = omega (arith, treated< turn, limits.0)
+
+  delivered : (d : Delivery) → size d ≤ bundle_max → (now.progress.treated + 1 < 2 ^ 64) × (now.progress.count + 1 < 2 ^ 64) × (now.progress.used + size d < 2 ^ 64)
+  delivered d s = (counted, omega (arith, count< turn, limits.1), omega (arith, s, room turn, c.loop-limits.invariant.output, limits.2))
+
+  later : (q : Progress) (d : Delivery) (origin : Origin) → q ≡ progressed now.progress d c.in-Good.m.end origin → length c.args.frame.now - q.next < length c.args.frame.now - now.progress.next
+  later q d origin e =
+      let n : q.next ≡ c.in-Good.m.end = ap (λ (y : Progress). y.next) e ∙ progressed-next now.progress d c.in-Good.m.end origin in
+      rw n (omega (arith, (place turn).later, at< turn))
+
+-- ---- the row that the message finds
+
+module _ {limits : Limits} {frame : List ℕ} {p₀ p : Run} (t : Turn limits frame p₀ p) (x : Visit) (e : x ≡ v t) where
+  abbrev w : ℕ
+  w = p₀.board.state.settings.window
+
+  abbrev order : Order
+  order = order_of p₀.board.state.settings.version
+
+  slot-in : x.slot < w
+  slot-in = omega (arith, ap (λ (y : Visit). y.slot) e, slot< t)
+
+  slot-below : x.slot < 16
+  slot-below = omega (arith, slot-in, (window_range _ (win t)).1)
+
+  module _ (rows : List Row) (er : rows ≡ rows_for w order p.board x) (d : Row) where
+    row-found : get_or rows x.slot d ≡ get_or rows x.slot (empty_row Free)
+    row-found =
+        let wide : w ≤ length p.board.state.rows = t.going.ready.rows in
+        get_d_any rows x.slot d (empty_row Free) (omega (arith, slot-in, wide, ap length er, rows-for-full w (win t) order p.board t.going.ready x))
+
+    row_is : get_or rows x.slot d ≡ visited w order p.board (v t)
+    row_is = row-found ∙ ap (λ (rs : List Row). get_or rs x.slot (empty_row Free)) er ∙ ap (visited w order p.board) e
+
+joined2 : (c : Joined-v-gt1) → c.if-v-gt1.rows ≡ cleared c.args.state.settings.window c.loop-limits.greatest c.visit_of-v.result.entered c.loop-limits.rows
+joined2 c =
+    let l = c.loop-limits in
+    let d = c.visit_of-v.result.entered in
+    let n = c.args.state.settings.window in
+    elim c.if-v-gt1.branch [
+      then-v-gt1 w ↦ w.rows-is ∙ w.freed-rows.ensures ∙ cleared-some n l.greatest d l.rows w.if-v-gt1.true
+    | else-v-gt1 w ↦ w.rows-is ∙ cleared-none n l.greatest d l.rows w.if-v-gt1.false ]
+
+joined3 : (c : Joined-v-gt0) → let s = c.args.state.settings in
+    c.if-v-gt1.rows ≡ cleared s.window c.loop-limits.greatest c.visit_of-v.result.entered c.loop-limits.rows
+    → c.if-v-gt0.rows ≡ rows_for s.window (order_of s.version) (going (record { present = c.loop-limits.present; greatest = c.loop-limits.greatest; rows = c.loop-limits.rows; settings = s }) c.loop-limits.pool c.loop-limits.output c.loop-limits.lengths c.loop-limits.numbers c.loop-limits.progress).board c.visit_of-v.result
+joined3 c e =
+    let rows = c.if-v-gt1.rows in
+    let x = c.visit_of-v.result in
+    let made : c.if-v-gt0.rows ≡ opened x.slot x.entered rows =
+    elim c.if-v-gt0.branch [
+      then-v-gt0 w ↦ w.rows-is ∙ ap (set rows x.slot) w.empty_row.ensures ∙ opened_some x.slot x.entered rows w.if-v-gt0.true
+    | else-v-gt0 w ↦ w.rows-is ∙ opened-none x.slot x.entered rows w.if-v-gt0.false ] in
+    made ∙ ap (opened x.slot x.entered) e
+
+abbrev vacant : Row
+vacant = record { phase = Free; known = false; last = 0; held = 0; indexes = []; lengths = [] }
+
+-- ---- the needs
+
+pub loop-limits-init : goal.loop-limits-init
+loop-limits-init c =
+    let full : length c.args.state.rows ≡ 16 = search (rules, length_mapped) in
+    let low : c.args.state.greatest < 2 ^ 32 = search rules in
+    let range = window_range _ (sound-window c.args.state c.requires.0.sound) in
+    begins c.args.limits c.args.frame.now _ c.requires.0 c.requires.2 (omega (arith, range, full)) low
+
+pub more-requires : goal.more-requires
+more-requires c = let g = c.loop-limits.invariant in omega (arith, g.output, g.used)
+
+pub read_message-requires : goal.read_message-requires
+read_message-requires c = omega (arith, some_left c.loop-limits.invariant (sym c.more.ensures ∙ c.loop-limits-test.true))
+
+pub progressed-progress-requires : goal.progressed-progress-requires
+progressed-progress-requires c = delivered (goal.at.progressed-progress-requires c).In-Good Nothing (omega arith)
+
+pub loop-limits-smaller-in-Skipped : goal.loop-limits-smaller-in-Skipped
+loop-limits-smaller-in-Skipped c = later (goal.at.loop-limits-smaller-in-Skipped c).In-Good c.progressed-progress.result Nothing Whole c.progressed-progress.ensures
+
+pub loop-limits-preserved-in-Skipped : goal.loop-limits-preserved-in-Skipped
+loop-limits-preserved-in-Skipped c = rw c.progressed-progress.ensures (passed (turn (goal.at.loop-limits-preserved-in-Skipped c).In-Good) c.in-Skipped.is)
+
+pub slice_bounds-content-count : goal.slice_bounds-content-count
+slice_bounds-content-count c = (place (turn (goal.at.slice_bounds-content-count c).In-Good)).ordered
+
+pub slice_bounds-content-start : goal.slice_bounds-content-start
+slice_bounds-content-start c = let l = place (turn (goal.at.slice_bounds-content-start c).In-Good) in omega (arith, l.ordered, l.within)
+
+pub slice_bounds-content-end : goal.slice_bounds-content-end
+slice_bounds-content-end c = let l = place (turn (goal.at.slice_bounds-content-end c).In-Good) in omega (arith, l.ordered, l.within)
+
+pub visit_of-v-requires : goal.visit_of-v-requires
+visit_of-v-requires c = let t = turn (goal.at.visit_of-v-requires c).In-Good in (is_window_lem _ (win t), fits t)
+
+pub freed-rows-requires : goal.freed-rows-requires
+freed-rows-requires c = is_window_lem _ (win (turn (goal.at.freed-rows-requires c).In-Good))
+
+pub offset_bounds-rows-slot : goal.offset_bounds-rows-slot
+offset_bounds-rows-slot c = omega (arith, slot-below (turn (goal.at.offset_bounds-rows-slot c).In-Good) _ c.visit_of-v.ensures)
+
+pub bounds-rows-slot : goal.bounds-rows-slot
+bounds-rows-slot c = slot-below (turn (goal.at.bounds-rows-slot c).In-Good) _ c.visit_of-v.ensures
+
+pub offset_bounds-rows-slot-in-loop-limits : goal.offset_bounds-rows-slot-in-loop-limits
+offset_bounds-rows-slot-in-loop-limits c = omega (arith, slot-below (turn (goal.at.offset_bounds-rows-slot-in-loop-limits c).In-Good) _ c.visit_of-v.ensures)
+
+pub bounds-rows-slot-in-loop-limits : goal.bounds-rows-slot-in-loop-limits
+bounds-rows-slot-in-loop-limits c = slot-below (turn (goal.at.bounds-rows-slot-in-loop-limits c).In-Good) _ c.visit_of-v.ensures
+
+pub cell_turn-t-requires : goal.cell_turn-t-requires
+cell_turn-t-requires c =
+    let h = (goal.at.cell_turn-t-requires c).In-Good in
+    let t = turn h in
+    let e = c.visit_of-v.ensures in
+    let er = joined3 (goal.at.cell_turn-t-requires c).Joined-v-gt0 (joined2 (goal.at.cell_turn-t-requires c).Joined-v-gt1) in
+    (rw (row_is t _ e c.if-v-gt0.rows er vacant) (found-sound t), rw e (admit t (small h)), cell-within c.args.state.settings.window c.loop-limits.pool c.loop-limits.invariant.ready.pool c.visit_of-v.result.slot (slot-in t _ e), room t)
+
+pub offset_bounds-rows-slot-in-loop-limits-2 : goal.offset_bounds-rows-slot-in-loop-limits-2
+offset_bounds-rows-slot-in-loop-limits-2 c = omega (arith, slot-below (turn (goal.at.offset_bounds-rows-slot-in-loop-limits-2 c).In-Good) _ c.visit_of-v.ensures)
+
+pub bounds-rows-slot-in-loop-limits-2 : goal.bounds-rows-slot-in-loop-limits-2
+bounds-rows-slot-in-loop-limits-2 c = slot-below (turn (goal.at.bounds-rows-slot-in-loop-limits-2 c).In-Good) _ c.visit_of-v.ensures
+
+-- the row has 64 entries, and what it hands out is no longer than a bundle
+shaped : (c : After-cell_turn-t) → Shaped (get_or c.if-v-gt0.rows c.visit_of-v.result.slot vacant)
+shaped c = record { indexes64 = c.cell_turn-t.ensures.1; lengths64 = c.cell_turn-t.ensures.2 }
+
+pub list_bundle-requires : goal.list_bundle-requires
+list_bundle-requires c =
+    let h = (goal.at.list_bundle-requires c).In-Good in
+    let t = turn h in
+    let e = c.visit_of-v.ensures in
+    let er = joined3 (goal.at.list_bundle-requires c).Joined-v-gt0 (joined2 (goal.at.list_bundle-requires c).Joined-v-gt1) in
+    handed-fits t (small h) c.visit_of-v.result e _ (row_is t _ e c.if-v-gt0.rows er vacant) (shaped (goal.at.list_bundle-requires c).After-cell_turn-t) c.cell_turn-t.result _ _ c.cell_turn-t.ensures.0
+
+pub progressed-progress-requires-in-loop-limits : goal.progressed-progress-requires-in-loop-limits
+progressed-progress-requires-in-loop-limits c =
+    let g = goal.at.progressed-progress-requires-in-loop-limits c in
+    let h = g.In-Good in
+    let t = turn h in
+    let e = c.visit_of-v.ensures in
+    let er = joined3 g.Joined-v-gt0 (joined2 g.Joined-v-gt1) in
+    delivered h c.cell_turn-t.result.delivery
+    (handed-fits t (small h) c.visit_of-v.result e _ (row_is t _ e c.if-v-gt0.rows er vacant) (shaped g.After-cell_turn-t) c.cell_turn-t.result _ _ c.cell_turn-t.ensures.0)
+
+pub loop-limits-smaller : goal.loop-limits-smaller
+loop-limits-smaller c =
+    later (goal.at.loop-limits-smaller c).In-Good c.progressed-progress-in-loop-limits.result c.cell_turn-t.result.delivery c.visit_of-v.result.origin c.progressed-progress-in-loop-limits.ensures
+
+pub loop-limits-preserved : goal.loop-limits-preserved
+loop-limits-preserved c =
+    let g = goal.at.loop-limits-preserved c in
+    let h = g.In-Good in
+    let t = turn h in
+    let e = c.visit_of-v.ensures in
+    let er = joined3 g.Joined-v-gt0 (joined2 g.Joined-v-gt1) in
+    let low : c.visit_of-v.result.greatest < 2 ^ 32 = search rules in
+    turned t (small h) c.visit_of-v.result e c.if-v-gt0.rows er _ (row-found t _ e c.if-v-gt0.rows er vacant) (shaped g.After-cell_turn-t) low
+    c.cell_turn-t.result _ _ c.cell_turn-t.ensures.0 _ c.list_bundle.ensures.0 _ c.list_bundle.ensures.1 c.progressed-progress-in-loop-limits.result c.progressed-progress-in-loop-limits.ensures
+
+pub shape_of-pool : goal.shape_of-pool
+shape_of-pool c = c.loop-limits.invariant.ready.pool ∙ sym c.requires.0.pooled
+
+pub shape_of-output : goal.shape_of-output
+shape_of-output c = c.loop-limits.invariant.output
+
+pub shape_of-lengths : goal.shape_of-lengths
+shape_of-lengths c = c.loop-limits.invariant.lengths
+
+pub shape_of-numbers : goal.shape_of-numbers
+shape_of-numbers c = c.loop-limits.invariant.numbers
+
+-- the loop is left where its test fails; no message is bad
+pub returns : goal.returns
+returns c =
+    let g = c.loop-limits.invariant in
+    let test = sym c.more.ensures in
+    let over : goes_on c.args.limits c.args.frame.now (going (record { present = c.loop-limits.present; greatest = c.loop-limits.greatest; rows = c.loop-limits.rows; settings = c.args.state.settings }) c.loop-limits.pool c.loop-limits.output c.loop-limits.lengths c.loop-limits.numbers c.loop-limits.progress) ≡ false =
+    elim c.loop-limits-test.branch [
+      else-loop-limits-test w ↦ test ∙ w.loop-limits-test.false
+    | then-loop-limits-test+in_default w ↦ never_bad g (test ∙ w.loop-limits-test.true) _ (sym w.read_message.ensures ∙ w.in_default.is) ] in
+    rw c.ended.ensures (ends g over, record { sound = g.ready.sound; pooled = g.ready.pool; used = omega (arith, g.used, g.output) })
