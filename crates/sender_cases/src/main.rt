@@ -3,8 +3,8 @@
 
 ghost use Rattle.std.specs.Prelude.{◌<◌, ◌≤◌, length};
 
-use libc::STDOUT_FILENO;
 use sender::{Answer, Started, State};
+use std::io;
 
 // Octet i of a bundle is 37 i + 11 (i / 256) modulo 256.
 fn bundle() -> [u8; 300] {
@@ -15,84 +15,75 @@ fn bundle() -> [u8; 300] {
     octets
 }
 
-fn write_text(text: &[u8]) {
-    io::write_all(STDOUT_FILENO, text);
-}
-
 fn digit(n: u8) -> u8
     requires { n < 16 }
 {
     if n < 10 { b'0' + n } else { b'a' - 10 + n }
 }
 
-fn write_octet(x: u8) {
-    let pair = [digit(x / 16), digit(x % 16)];
-    io::write_all(STDOUT_FILENO, &pair);
+fn write_octet(rt: &impl Print, octet: u8) -> io::Result<()> {
+    rt.write_all(&[digit(octet / 16), digit(octet % 16)])
 }
 
-fn write_hex(octets: &[u8]) {
-    for i in 0..octets.len() {
-        write_octet(octets[i]);
+fn write_hex(rt: &impl Print, octets: &[u8]) -> io::Result<()> {
+    for octet in octets {
+        write_octet(rt, *octet)?;
     }
-    write_text(b"\n");
+    println!(rt)
 }
 
-// A number below 1,000.
-fn write_number(n: usize) {
-    let digits = [
-        b'0' + (n / 100 % 10) as u8,
-        b'0' + (n / 10 % 10) as u8,
-        b'0' + (n % 10) as u8,
-    ];
-    io::write_all(STDOUT_FILENO, &digits);
+// The last three digits of a number.
+fn write_number(rt: &impl Print, n: usize) -> io::Result<()> {
+    print!(rt; "{:03}", n % 1000)
 }
 
-fn write_answer(answer: Answer) {
+fn write_answer(rt: &impl Print, answer: Answer) -> io::Result<()> {
     match answer {
-        Answer::Placed => write_text(b"Placed"),
-        Answer::PlacedReady => write_text(b"Placed and ready"),
-        Answer::Ready => write_text(b"Ready"),
-        Answer::Nothing => write_text(b"Nothing"),
-        Answer::Refused(_) => write_text(b"Refused"),
+        Answer::Placed => print!(rt; "Placed"),
+        Answer::PlacedReady => print!(rt; "Placed and ready"),
+        Answer::Ready => print!(rt; "Ready"),
+        Answer::Nothing => print!(rt; "Nothing"),
+        Answer::Refused(_) => print!(rt; "Refused"),
     }
 }
 
 // Places the first n octets as a bundle.
-fn place(s: State, octets: &[u8], n: usize, frame: &mut [u8]) -> State
+fn place(rt: &impl Print, s: State, octets: &[u8], n: usize, frame: &mut [u8]) -> io::Result<State>
     requires { n ≤ length octets.now }
 {
     let sent = sender::place(s, &octets[..n], frame);
-    let answer = sent.answer;
     let state = sent.state;
-    write_number(n);
-    write_text(b": ");
-    write_answer(answer);
-    write_text(b", fill ");
-    write_number(state.fill);
-    write_text(b"\n");
-    write_hex(frame);
-    state
+    write_number(rt, n)?;
+    print!(rt; ": ")?;
+    write_answer(rt, sent.answer)?;
+    print!(rt; ", fill ")?;
+    write_number(rt, state.fill)?;
+    println!(rt)?;
+    write_hex(rt, frame)?;
+    Ok(state)
 }
 
 // A bundle of 300 octets in pieces, and then one of n octets.
-fn pieces_then(first: State, octets: &[u8], n: usize)
+fn pieces_then(rt: &impl Print, first: State, octets: &[u8], n: usize) -> io::Result<()>
     requires { (300 ≤ length octets.now) × (n ≤ length octets.now) }
 {
     let mut frame = [7u8; 128];
-    let second = place(first, octets, 300, &mut frame);
-    let third = place(second, octets, 300, &mut frame);
-    let rest = place(third, octets, 300, &mut frame);
-    place(rest, octets, n, &mut frame);
+    let second = place(rt, first, octets, 300, &mut frame)?;
+    let third = place(rt, second, octets, 300, &mut frame)?;
+    let rest = place(rt, third, octets, 300, &mut frame)?;
+    place(rt, rest, octets, n, &mut frame)?;
+    Ok(())
 }
 
-fn main() {
+fn main(rt: HostRuntime) -> io::Result<()> {
     let octets = bundle();
     let Started::Made(s) = sender::start(128, 4294967295) else {
-        return;
+        return Ok(());
     };
-    pieces_then(s, &octets[..], 44);
-    pieces_then(s, &octets[..], 45);
+    pieces_then(&rt, s, &octets, 44)?;
+    pieces_then(&rt, s, &octets, 45)?;
     let mut frame = [7u8; 128];
-    place(s, &octets[..], 124, &mut frame);
-    place(s, &octets[..], 125, &mut frame);
+    place(&rt, s, &octets, 124, &mut frame)?;
+    place(&rt, s, &octets, 125, &mut frame)?;
+    Ok(())
 }
