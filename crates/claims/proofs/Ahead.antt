@@ -218,8 +218,9 @@ module _ (order : Order) (T : Transfers) (Q : Message → Type 0) (w₁ w₂ : �
 
   pub both_run : {a₁ a₂ : Course} → Ahead a₁ a₂ → (ms : List Message) → AllExpected ms → AllNear a₂ ms → Ahead (course_after order w₁ T a₁ ms) (course_after order w₂ T a₂ ms)
   unfolding AllNear course_after
-  both_run A [] v n = A
-  both_run A (m ∷ ms) v n = both_run (both_event A (event T.first m) (v m (Memᴰ.head refl)) n.0) ms (λ m h. v m (Memᴰ.tail h)) n.1
+  both_run {a₁ = a₁} {a₂ = a₂} A [] v n = A
+  both_run {a₁ = a₁} {a₂ = a₂} A (m ∷ ms) v n =
+      both_run {a₁ = after_event order w₁ T a₁ (event T.first m)} {a₂ = after_event order w₂ T a₂ (event T.first m)} (both_event A (event T.first m) (v m (Memᴰ.head refl)) n.0) ms (λ m h. v m (Memᴰ.tail h)) n.1
 
   no_stop : (m : Message) → ((t : ℕ) → m ≡ cancel t → ⊥) → (k : ℕ) → event T.first m ≡ stops k → ⊥
   unfolding event
@@ -231,9 +232,9 @@ module _ (order : Order) (T : Transfers) (Q : Message → Type 0) (w₁ w₂ : �
 
   pub more-run : {a₁ a₂ : Course} → Ahead a₁ a₂ → (ms : List Message) → AllExpected ms → ((t : ℕ) → Memᴰ (cancel t) ms → ⊥) → AllNear a₂ ms → Ahead a₁ (course_after order w₂ T a₂ ms)
   unfolding AllNear course_after
-  more-run A [] v c n = A
-  more-run A (m ∷ ms) v c n =
-      more-run (more_event A (event T.first m) (v m (Memᴰ.head refl)) (no_stop m (λ t e. c t (Memᴰ.head (sym e)))) n.0) ms (λ m h. v m (Memᴰ.tail h)) (λ t h. c t (Memᴰ.tail h)) n.1
+  more-run {a₁ = a₁} {a₂ = a₂} A [] v c n = A
+  more-run {a₁ = a₁} {a₂ = a₂} A (m ∷ ms) v c n =
+      more-run {a₁ = a₁} {a₂ = after_event order w₂ T a₂ (event T.first m)} (more_event A (event T.first m) (v m (Memᴰ.head refl)) (no_stop m (λ t e. c t (Memᴰ.head (sym e)))) n.0) ms (λ m h. v m (Memᴰ.tail h)) (λ t h. c t (Memᴰ.tail h)) n.1
 
   -- ---- from "no transfer message comes more than the window less one behind one already come"
 

@@ -227,10 +227,10 @@ module _ (order : Order) (w : ℕ) (win : Window w) (T : Transfers) where
   pub run-tied : {b : Board} {a : Course} → Tied b a → (ms : List Message) → ((m : Message) → Memᴰ m ms → Honest T m)
       → Tied (board_after w order b ms) (course_after order w T a ms) × (map answered (handed_by w order b ms) ≡ given_by order w T a ms)
   unfolding board_after handed_by course_after given_by
-  run-tied s [] v = (s, refl)
-  run-tied {b} s (m ∷ ms) v =
+  run-tied {b} {a} s [] v = (s, refl)
+  run-tied {b} {a} s (m ∷ ms) v =
       let one = step_tied s m (v m (Memᴰ.head refl)) in
-      let rest = run-tied one.0 ms (λ n h. v n (Memᴰ.tail h)) in
+      let rest = run-tied {b = (step w order b m).board} {a = after_event order w T a (event T.first m)} one.0 ms (λ n h. v n (Memᴰ.tail h)) in
       (rest.0, map-append answered (listed (step w order b m).handed) (handed_by w order (step w order b m).board ms) ∙ rw (one.1, rest.1))
 
   pub fresh-tied : {v : Version} (b : Board) → Fresh v w b → Tied b begin

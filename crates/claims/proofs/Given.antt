@@ -171,7 +171,7 @@ module _ (order : Order) (T : Transfers) (Q : Message → Type 0) where
   given-run w {a} {hs} G [] good = rw (append-nil hs) G
   given-run w {a} {hs} G (m ∷ ms) good =
       rw (append_assoc hs (hands_out order w T a (event T.first m)) (given_by order w T (after_event order w T a (event T.first m)) ms))
-      at (given-run w (given_event w G (event T.first m) (good m (Memᴰ.head refl))) ms (λ n h. good n (Memᴰ.tail h)))
+      at (given-run w {a = after_event order w T a (event T.first m)} {hs = hs ++ hands_out order w T a (event T.first m)} (given_event w G (event T.first m) (good m (Memᴰ.head refl))) ms (λ n h. good n (Memᴰ.tail h)))
 
   pub given-begin : Given begin []
   unfolding begin NoTransferTwice has Backed

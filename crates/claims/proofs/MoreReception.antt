@@ -50,10 +50,10 @@ module _ {v : Version} (R : Record v) where
 
     runs : {b : Board} {a : Course} → Tied D.order w win T b a → (fs : List (List ℕ)) → ((f : List ℕ) → Memᴰ f fs → Memᴰ f R.frames) → Runs a (entries_of D w b fs)
     unfolding Runs entries_of
-    runs s [] d = tt
-    runs s (f ∷ fs) d =
+    runs {b = b} {a = a} s [] d = tt
+    runs {b = b} {a = a} s (f ∷ fs) d =
         let tied = run-tied D.order w win T s (messages D.read f) (λ n h. R.honest f n (d f (Memᴰ.head refl)) h) in
-        (tied.1, runs tied.0 fs (λ g h. d g (Memᴰ.tail h)))
+        (tied.1, runs {b = board_after w D.order b (messages D.read f)} {a = course_after D.order w T a (messages D.read f)} tied.0 fs (λ g h. d g (Memᴰ.tail h)))
 
     reception_runs : {es : List Entry} → Reception R w es → Runs begin es
     reception_runs {es} P =
@@ -68,7 +68,7 @@ module _ {v : Version} (R : Record v) where
     unfolding Runs handed_of
     given_all {a} {hs} G [] r d = (a, rw (append-nil hs) G)
     given_all {a} {hs} G (e ∷ es) r d =
-        let rest = given_all (given_entry G e (d e (Memᴰ.head refl)) r.0) es r.1 (λ e h. d e (Memᴰ.tail h)) in
+        let rest = given_all {a = course a e} {hs = hs ++ e.handed} (given_entry G e (d e (Memᴰ.head refl)) r.0) es r.1 (λ e h. d e (Memᴰ.tail h)) in
         (rest.0, rw (append_assoc hs e.handed (handed_of es)) at rest.1)
 
     outcome : (es : List Entry) → Reception R w es → (a : Course) × Gives a (handed_of es)
@@ -102,20 +102,20 @@ module _ {v : Version} (R : Record v) where
 
     kept_from : {a₁ a₂ : Course} {u v : List Delivery} → Gives a₁ u → Gives a₂ v → Leads a₁ a₂ → {x y : List Entry} (f : With (NoCancel D) x y) → Runs w₁ win₁ a₁ x → Runs w₂ win₂ a₂ y → Drawn x → Drawn y → Near a₂ (messages_of D y) → Kept u v f
     unfolding Kept Runs messages_of NoCancel
-    kept_from G₁ G₂ A none r₁ r₂ d₁ d₂ n = tt
-    kept_from {a₁} {a₂} G₁ G₂ A (same {a} {b} {ys = ys} e f) r₁ r₂ d₁ d₂ n =
+    kept_from {a₁} {a₂} {u} {v} G₁ G₂ A none r₁ r₂ d₁ d₂ n = tt
+    kept_from {a₁} {a₂} {u} {v} G₁ G₂ A (same {a} {b} {ys = ys} e f) r₁ r₂ d₁ d₂ n =
         let m₂ = d₂ b (Memᴰ.head refl) in
         let ms = messages D.read b.frame in
         let J₁ = given_entry w₁ win₁ G₁ a (d₁ a (Memᴰ.head refl)) r₁.0 in
         let J₂ = given_entry w₂ win₂ G₂ b m₂ r₂.0 in
         let ns = near-append D.order T (InRecord R) w₁ w₂ a₂ ms (messages_of D ys) n in
         let A' : Leads (course w₁ win₁ a₁ a) (course w₂ win₂ a₂ b) = rw e (both_run D.order T (InRecord R) w₁ w₂ A ms (all_expected b.frame m₂) ns.0) in
-        (handed_too J₁ J₂ A', kept_from J₁ J₂ A' f r₁.1 r₂.1 (λ t h. d₁ t (Memᴰ.tail h)) (λ t h. d₂ t (Memᴰ.tail h)) ns.1)
-    kept_from {a₁} {a₂} G₁ G₂ A (more {b} {ys = ys} c f) r₁ r₂ d₁ d₂ n =
+        (handed_too J₁ J₂ A', kept_from {a₁ = course w₁ win₁ a₁ a} {a₂ = course w₂ win₂ a₂ b} {u = u ++ a.handed} {v = v ++ b.handed} J₁ J₂ A' f r₁.1 r₂.1 (λ t h. d₁ t (Memᴰ.tail h)) (λ t h. d₂ t (Memᴰ.tail h)) ns.1)
+    kept_from {a₁} {a₂} {u} {v} G₁ G₂ A (more {b} {ys = ys} c f) r₁ r₂ d₁ d₂ n =
         let m₂ = d₂ b (Memᴰ.head refl) in
         let ms = messages D.read b.frame in
         let ns = near-append D.order T (InRecord R) w₁ w₂ a₂ ms (messages_of D ys) n in
-        kept_from G₁ (given_entry w₂ win₂ G₂ b m₂ r₂.0) (more-run D.order T (InRecord R) w₁ w₂ A ms (all_expected b.frame m₂) c ns.0) f r₁ r₂.1 d₁ (λ t h. d₂ t (Memᴰ.tail h)) ns.1
+        kept_from {a₁ = a₁} {a₂ = course w₂ win₂ a₂ b} {u = u} {v = v ++ b.handed} G₁ (given_entry w₂ win₂ G₂ b m₂ r₂.0) (more-run D.order T (InRecord R) w₁ w₂ A ms (all_expected b.frame m₂) c ns.0) f r₁ r₂.1 d₁ (λ t h. d₂ t (Memᴰ.tail h)) ns.1
 
     kept : (x y : List Entry) → Reception R w₁ x → Reception R w₂ y → (f : With (NoCancel D) x y) → NoneBehind (w₂ - 1) (places T.first (messages_of D y)) → Kept [] [] f
     unfolding begin

@@ -170,7 +170,7 @@ module _ (D : Draft) (w : ℕ) where
         let F = wf f (Memᴰ.head refl) in
         let t = takeable D M w f F win b R in
         let run = frame-run D M w f F t.takes in
-        taken (rw (← run.0, ← run.1) at t.takes) (ready_receives _ (rw (← run.1) at t.ready) fs (λ g m. wf g (Memᴰ.tail m)))
+        taken (rw (← run.0, ← run.1) at t.takes) (ready_receives (board_after w D.order b (messages D.read f)) (rw (← run.1) at t.ready) fs (λ g m. wf g (Memᴰ.tail m)))
 
   entry_frame : (b : Board) (fs : List (List ℕ)) (e : Entry) → Memᴰ e (entries_of b fs) → Memᴰ e.frame fs
   unfolding entries_of
