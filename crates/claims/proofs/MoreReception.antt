@@ -14,6 +14,7 @@ use Rattle.rows.specs.Message.{Draft, draft, Board}
 use Rattle.claims.specs.Record.{Transfers, Record}
 use Rattle.claims.specs.Calls.{Delivery, Entry, handed_of}
 use Rattle.claims.specs.Demand3.{delivery, NoneBehind, places, messages_of, NoCancel, With, none, same, more, Kept, InRecord, OfRecord, content, joined, Reception, Demand3}
+use Rattle.rows.specs.Messages.{board_after}
 use Rattle.claims.proofs.Track.{Course, begin, event, bundle_at, course_after, given_by}
 use Rattle.claims.proofs.Window.{window_size}
 use Rattle.claims.proofs.Boards.{Tied, run-tied, fresh-tied}
