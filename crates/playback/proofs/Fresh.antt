@@ -3,7 +3,7 @@ use mathlib.Core.Path.{◌≡◌, refl, sym, ap, ◌∙◌}
 use mathlib.Core.Bool.{false}
 use mathlib.Core.Option.{Option, none, some}
 use mathlib.Core.List.{List, [], ◌∷◌, map}
-use Prim.Native.Nat.{ℕ, zero, suc, ◌+◌, ◌≤◌}
+use Prim.Native.Nat.{ℕ, zero, suc, ◌+◌, ◌≤◌, ◌-◌}
 use native.Mathlib.Nat.{zero-add, sub-zero}
 use native.Mathlib.Omega.{arith}
 use lib.ListN.{length, take, replicate, length-map}
@@ -32,7 +32,7 @@ use Rattle.recording.specs.Recording.{frames_max, octets_max}
 use Rattle.frames.specs.Frames.{Note, Reach, frames_of, set_out, through}
 use Rattle.frames.proofs.Joined.{octets_in, frames_fit, frames_many}
 use Rattle.frames.proofs.Adding.{poured_put, entries-put, sizes_of}
-use Rattle.playback.specs.Playback.{Playback, note_of, notes_within, played}
+use Rattle.playback.specs.Playback.{Playback, note_of, notes_within, played, treated_in}
 use Rattle.playback.specs.Call.{play_window, Results, results, Reply, reply, answered, bundles_max, buffer_size, Enough, played_fresh}
 use Rattle.playback.specs.declared.Answer.TheVariants.{Played}
 use Rattle.frames.proofs.Costs.{priced_read}
@@ -52,7 +52,7 @@ few_notes : (D : Draft) (n k : ℕ) (fs : List (List ℕ)) → length (notes_wit
 unfolding notes_within
 few_notes D n k [] = omega arith
 few_notes D n k (f ∷ fs) =
-    cond_elim (λ (ns : List Note). length ns ≤ suc (length fs)) (eqb n 0) (λ _. omega arith) (λ _. note_length (unfit D f 0) k (length fs) _ (few_notes D _ (k + 1) fs))
+    cond_elim (λ (ns : List Note). length ns ≤ suc (length fs)) (eqb n 0) (λ _. omega arith) (λ _. note_length (unfit D f 0) k (length fs) _ (few_notes D (n - length (treated_in D f)) (k + 1) fs))
 
 abbrev pub play_limits : ℕ → Limits
 play_limits limit = record { messages = limit; bundles = bundles_limit }

@@ -20,8 +20,8 @@ module _ (c : After-sum_of) where
   sum = c.sum_of.ensures ∙ ap sum_of (take-length _)
 
 -- the octets are as many as their sum
-module _ (c : tie.After-sum-of) (same : length (start c).args.joined.now ≡ c.sum_of.result) where
-  even : length (start c).args.joined.now ≡ sum_of (start c).args.sizes.now
+module _ (c : After-sum_of) (same : length c.args.joined.now ≡ c.sum_of.result) where
+  even : length c.args.joined.now ≡ sum_of c.args.sizes.now
   even = same ∙ sum c
 
 pub returns-then-sizes-gt-FRAMES_MAX : goal.returns-then-sizes-gt-FRAMES_MAX
