@@ -24,7 +24,7 @@ pub extern "C" fn btpu_receive_burst<'a>(
       image = state.new;
       pool = pool.new;
       lists = Call.lists output.new lengths.new numbers.new places.new reasons.new;
-      res = res.new;
+      result = res.new;
     }
         ≡ Spec.burst state.old pool.old sizes.now joined.now frame place
         (Call.lists output.old lengths.old numbers.old places.old reasons.old)
