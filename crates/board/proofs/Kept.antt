@@ -21,7 +21,7 @@ use Rattle.playback.specs.declared.Refusal.TheVariants.{Unreadable, PoolSize, Sh
 use Rattle.playback.specs.Call as Call
 use Rattle.playback.specs.Call.{Results, play}
 use Rattle.playback.proofs.Refusals.{within-limit}
-use Rattle.board.specs.Recordings.{written, Recorded, recorded, Opened, opened_as, opened, played_as, Played, played}
+use Rattle.board.specs.Recordings.{written, Recorded, recorded, Opened, opened_as, opened, played_as, played}
 
 -- the sizes of a recording, and what there is of it, as an opening call leaves them
 abbrev opened_by : List ℕ → ℕ → List ℕ → Opened

@@ -18,7 +18,7 @@ use Rattle.burst.proofs.Refusals as Bursts
 use Rattle.images.specs.Receiver.{is_image, state_of}
 use Rattle.answers.specs.Receiver.{report, kept}
 use Rattle.answers.specs.Burst as Answered
-use Rattle.board.specs.Receiver.{Exported, exported, received, checked}
+use Rattle.board.specs.Receiver.{exported, received, checked}
 use Rattle.board.specs.Burst as Exporting
 use Rattle.board.specs.Burst.{burst}
 use Rattle.board.specs.Refused.{NoWindowRefused}

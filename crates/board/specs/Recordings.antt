@@ -2,7 +2,6 @@
 use Rattle.std.specs.Prelude.{List, [], ◌∷◌, ℕ, ◌+◌, ◌*◌, length, get_or, set}
 use Rattle.octets.specs.Octets.{put}
 use Rattle.recording.specs.declared.Writing.{Writing}
-use Rattle.recording.specs.declared.Writing.TheVariants as Writing
 use Rattle.recording.specs.Recording as Recording
 use Rattle.recording.specs.Recording.{Read, refused, good, blank, Wrote}
 use Rattle.playback.specs.declared.Answer.{Answer}

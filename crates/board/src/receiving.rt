@@ -64,8 +64,7 @@ pub extern "C" fn btpu_receive(
     output: &mut [u8],
     res: &mut [u64; 4],
 ) -> u32
-    ensures {
-        record { status = result; image = state.new; pool = pool.new; output = output.new; result = res.new }
+    ensures { record { status = result; image = state.new; pool = pool.new; output = output.new; result = res.new }
         ≡ Spec.received state.old pool.old frame.now place output.old res.old }
 {
     if images::receiving::is_image(state) {

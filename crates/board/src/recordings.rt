@@ -14,8 +14,7 @@ pub extern "C" fn btpu_record<'a>(
     output: &mut [u8],
     res: &mut [u64; 4],
 ) -> u32
-    ensures {
-        record { status = result; output = output.new; result = res.new }
+    ensures { record { status = result; output = output.new; result = res.new }
         ≡ Spec.recorded sizes.now joined.now output.old res.old }
 {
     let answer = recording::write(sizes, joined, output);
@@ -37,8 +36,7 @@ pub extern "C" fn btpu_recording_open(
     sizes: &mut [u16; 1024],
     res: &mut [u64; 4],
 ) -> u32
-    ensures {
-        record { status = result; sizes = sizes.new; result = res.new }
+    ensures { record { status = result; sizes = sizes.new; result = res.new }
         ≡ Spec.opened recording.now sizes.old res.old }
 {
     let opened = recording::open(recording);
@@ -69,13 +67,12 @@ pub extern "C" fn btpu_play(
     reasons: &mut [u32],
     res: &mut [u64; 4],
 ) -> u32
-    ensures {
-        record {
-          status = result;
-          pool = pool.new;
-          results = Call.results output.new lengths.new places.new reasons.new;
-          result = res.new;
-        }
+    ensures { record {
+      status = result;
+      pool = pool.new;
+      results = Call.results output.new lengths.new places.new reasons.new;
+      result = res.new;
+    }
         ≡ Spec.played recording.now limit pool.old
         (Call.results output.old lengths.old places.old reasons.old)
         res.old }

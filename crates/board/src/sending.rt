@@ -57,8 +57,7 @@ pub extern "C" fn btpu_place(
     frame: &mut [u8],
     res: &mut [u64; 4],
 ) -> u32
-    ensures {
-        record { status = result; image = state.new; frame = frame.new; result = res.new }
+    ensures { record { status = result; image = state.new; frame = frame.new; result = res.new }
         ≡ Spec.placed_by state.old bundle.now frame.old res.old }
 {
     if images::sending::is_image(state) {
@@ -72,8 +71,7 @@ pub extern "C" fn btpu_place(
 // Cancelling the transfer begun, on an image.
 #[unsafe(no_mangle)]
 pub extern "C" fn btpu_cancel(state: &mut [u8; 24], frame: &mut [u8], res: &mut [u64; 4]) -> u32
-    ensures {
-        record { status = result; image = state.new; frame = frame.new; result = res.new }
+    ensures { record { status = result; image = state.new; frame = frame.new; result = res.new }
         ≡ Spec.cancelled_by state.old frame.old res.old }
 {
     if images::sending::is_image(state) {
@@ -87,8 +85,7 @@ pub extern "C" fn btpu_cancel(state: &mut [u8; 24], frame: &mut [u8], res: &mut 
 // Flushing, on an image.
 #[unsafe(no_mangle)]
 pub extern "C" fn btpu_flush(state: &mut [u8; 24], frame: &mut [u8], res: &mut [u64; 4]) -> u32
-    ensures {
-        record { status = result; image = state.new; frame = frame.new; result = res.new }
+    ensures { record { status = result; image = state.new; frame = frame.new; result = res.new }
         ≡ Spec.flushed_by state.old frame.old res.old }
 {
     if images::sending::is_image(state) {

@@ -21,7 +21,6 @@ use Rattle.pieces.specs.declared.Order.{Order}
 use Rattle.row.specs.declared.Row.{Row}
 use Rattle.row.specs.declared.Phase.TheVariants.{Free}
 use Rattle.reassembly.specs.Rules as Rules
-use Rattle.octets.specs.Octets.{sum_of}
 use Rattle.pieces.specs.Pieces.{bundle_max}
 use Rattle.row.specs.Row.{empty_row}
 use Rattle.reassembly.specs.Rules.{piece_step, cancel_step}

@@ -12,7 +12,6 @@ use borrow.Author.Tests.{eqb-true, eqb-false}
 use Rattle.octets.proofs.Flags.{bool}
 use Rattle.wire.specs.Message.{Message, skipped, bundle, cancel}
 use Rattle.window.specs.Window.{distance}
-use Rattle.octets.specs.Octets.{sum_of}
 use Rattle.pieces.specs.declared.Order.{Order}
 use Rattle.pieces.specs.Pieces.{bundle_max}
 use Rattle.writing.specs.Written.{piece}

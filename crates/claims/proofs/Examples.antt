@@ -243,7 +243,7 @@ both_well_formed f (mathlib.Core.List.Memᴰ.tail (mathlib.Core.List.Memᴰ.head
 both_well_formed f (mathlib.Core.List.Memᴰ.tail (mathlib.Core.List.Memᴰ.tail (mathlib.Core.List.Memᴰ.head e))) = rw e (well_formed_lem (omega arith) (omega arith) computed_twice.1)
 both_well_formed f (mathlib.Core.List.Memᴰ.tail (mathlib.Core.List.Memᴰ.tail (mathlib.Core.List.Memᴰ.tail m))) = absurd (mathlib.Core.List.Memᴰ.not-nil m)
 
--- "No transfer twice" is false of well_formed_lem frames that are of no honest record.
+-- "No transfer twice" is false of well-formed frames that are of no honest record.
 not-without-a-record : ((es : List Entry) → Calls receive (board 16) es → NoTransferTwice (handed_of es)) → ⊥
 unfolding board delivery handed_of NoTransferTwice
 not-without-a-record claim =

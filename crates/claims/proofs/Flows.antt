@@ -5,10 +5,6 @@ use mathlib.Core.Option.{none, some}
 use mathlib.Core.List.{List, [], ◌∷◌, ◌++◌}
 use Prim.Native.Nat.{ℕ, ◌+◌, ◌%◌, ◌^◌, ◌<◌}
 use native.Mathlib.Omega.{arith}
-use native.Mathlib.Nat.{zero-add}
-use lib.ListN.{length, take, drop, length-append, length-drop, take-append-drop}
-use lib.Seq.{take-add}
-use Rattle.octets.specs.Octets.{sum_of}
 use Rattle.wire.specs.Message.{Message, skipped, bundle, cancel as cancelled}
 use Rattle.writing.specs.Written.{piece}
 use Rattle.pieces.specs.declared.Order.{Order}

@@ -4,7 +4,7 @@
 --     Pieces          the row of one number, and its track
 --     Window          the window table along the record's numbers
 --     Boards          a board and its course: each message does to the one what it does to the other
---     Taking          frames taken by calls; every well_formed_lem frame can be taken
+--     Taking          frames taken by calls; every well-formed frame can be taken
 --     Given           what a course has handed out: bundles of the record, none twice
 --     Ahead           two courses: the second is ahead of the first, number by number
 --     MoreReception   demand 3

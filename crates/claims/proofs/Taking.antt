@@ -1,5 +1,5 @@
--- A frame taken to its end by calls, refused calls between, is its messages treated one after the other; and every well_formed_lem frame can be
--- taken to its end by a ready board, so that a fresh board can take any list of well_formed_lem frames.
+-- A frame taken to its end by calls, refused calls between, is its messages treated one after the other; and every well-formed frame can be
+-- taken to its end by a ready board, so that a fresh board can take any list of well-formed frames.
 use mathlib.Core.Path.{◌≡◌, refl, sym, ap, ◌∙◌}
 use mathlib.Core.List.Memᴰ
 use mathlib.Core.List.{List, [], ◌∷◌, map, Memᴰ}

@@ -7,11 +7,8 @@ use native.Mathlib.Omega.{arith}
 use lib.ListN.{length}
 use lib.Dec.{eqb, ltb}
 use Rattle.octets.proofs.Flags.{cond_elim}
-use Rattle.wire.specs.Frame.{checked}
-use Rattle.wire.specs.declared.Checked.TheVariants as Frame
 use Rattle.pieces.specs.Pieces.{bundle_max}
 use Rattle.rows.specs.declared.State as Row
-use Rattle.rows.specs.State as Rows
 use Rattle.rows.specs.State.{window_of, fresh}
 use Rattle.rows.specs.Message.{draft_of}
 use Rattle.receiver.specs.declared.Answer.{Answer}

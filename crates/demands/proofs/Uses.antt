@@ -7,7 +7,7 @@ use native.Mathlib.Omega.{arith}
 use lib.ListN.{replicate}
 use Rattle.octets.specs.Octets.{Octets, number, number16, be32, be16, put}
 use Rattle.wire.specs.declared.Version.TheVariants.{Draft00, Draft02}
-use Rattle.wire.specs.Message.{cancel, kind, content_length}
+use Rattle.wire.specs.Message.{kind, content_length}
 use Rattle.writing.specs.Written.{header, content_of, written, piece, padding}
 use Rattle.framing.specs.Placing as Framing
 use Rattle.sender.specs.Answers.{unless}

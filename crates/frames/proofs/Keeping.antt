@@ -1,7 +1,7 @@
 -- The settings of a board stay over single calls.
 use mathlib.Core.Path.{◌≡◌, refl, ◌∙◌}
 use mathlib.Core.Bool.{Bool}
-use mathlib.Core.List.{List, ◌∷◌}
+use mathlib.Core.List.{List}
 use Prim.Native.Nat.{ℕ}
 use Rattle.rows.specs.Message.{Draft, Board, Handed}
 use Rattle.rows.proofs.Keeping.{settings_of}

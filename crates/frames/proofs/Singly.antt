@@ -16,7 +16,6 @@ use Rattle.wire.specs.Frame.{Item, row, items, from, scanned, Sized, frame_max}
 use Rattle.wire.proofs.Order.{Along, few-items, good_place}
 use Rattle.wire.proofs.Places.{taken}
 use Rattle.window.specs.Window.{Window}
-use Rattle.pieces.specs.declared.Order.{Order}
 use Rattle.pieces.specs.Pieces.{bundle_max}
 use Rattle.rows.specs.Message.{Draft, Board, Handed, step, messages_from}
 use Rattle.messages.specs.declared.Limits.{Limits}

@@ -4,9 +4,8 @@ use mathlib.Core.Logic.{⊎_elim}
 use mathlib.Core.List.{[]}
 use mathlib.Core.Path.{◌≡◌}
 use Prim.Native.Nat.{◌<◌, ◌^◌}
-use lib.ListN.{length}
 use native.Mathlib.Omega.{arith}
-use Rattle.octets.specs.Octets.{be16, number, be32}
+use Rattle.octets.specs.Octets.{be16, be32}
 use Rattle.octets.proofs.Flags.{bool}
 use Rattle.octets.proofs.Numbers.{number-be32, number16-be16}
 use Rattle.framing.specs.declared.State.{State}

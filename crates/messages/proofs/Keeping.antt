@@ -7,7 +7,6 @@ use lib.ListN.{length}
 use Rattle.octets.proofs.Flags.{cond_elim}
 use Rattle.wire.specs.Frame.{Item}
 use Rattle.pieces.specs.declared.Order.{Order}
-use Rattle.rows.specs.declared.Settings.{Settings}
 use Rattle.rows.specs.Message.{Board, Handed, step}
 use Rattle.rows.proofs.Keeping.{settings_of, step_keeps}
 use Rattle.messages.specs.declared.Limits.{Limits}

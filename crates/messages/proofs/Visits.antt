@@ -1,11 +1,11 @@
 -- A message as the code takes it, where it goes first and its row then, is the step of the definition; and it leaves a board sound.
-use mathlib.Core.Bool.{Bool, true, false, cond, ◌&&◌, ◌||◌}
+use mathlib.Core.Bool.{Bool, true, false, cond}
 use mathlib.Core.List.{List}
 use mathlib.Core.Option.{Option, none, some}
 use mathlib.Core.Path.{◌≡◌, refl, ◌∙◌}
 use Prim.Native.Nat.{ℕ, ◌+◌, ◌*◌, ◌^◌, ◌≤◌, ◌<◌}
 use native.Mathlib.Omega.{arith}
-use lib.Dec.{eqb, ltb}
+use lib.Dec.{ltb}
 use lib.ListN.{length, get_or, drop, set, length-set}
 use lib.Seq.{set-get_or}
 use borrow.Author.Tests.{leb-true, lt-ltb, le-ltb, le-leb}
@@ -28,7 +28,6 @@ use Rattle.reassembly.specs.Rules as Rules
 use Rattle.row.specs.declared.Phase.TheVariants.{Free}
 use Rattle.row.specs.declared.Row.{Row}
 use Rattle.row.proofs.Shaped.{Shaped}
-use Rattle.row.proofs.Sound.{empty-sound}
 use Rattle.reassembly.proofs.Kept.{piece-sound, piece-cell, piece-bundle-fits, cancel-sound}
 use Rattle.rows.specs.Message.{Board, Outcome, cell_at, put_cell, handed_of, freed_from, moved, in_row, treat_transfer, step}
 use Rattle.rows.specs.Visit.{stay, transfer_visit, visit_of}

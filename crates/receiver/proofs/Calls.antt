@@ -77,7 +77,7 @@ module _ (D : Draft) (w : ℕ) where
       go (denied r e) = absurd (never r (rw e))
       go (treated q) = q
 
-  -- a call on a sound state, with a pool and an output of good size, a well_formed_lem frame and a good place
+  -- a call on a sound state, with a pool and an output of good size, a well-formed frame and a good place
   pub admitted : (b : Board) (frame : List ℕ) (place : ℕ) (output : List ℕ) (is : List Item) → State.sound b.state ≡ true → length b.pool ≡ w * bundle_max → bundle_max ≤ length output
       → 0 < length frame → length frame ≤ frame_max → scanned D.read frame ≡ row is → (eqb place (length frame) || starts place is) ≡ true
       → receive_as D w b frame place output ≡ treat D w b (from place is) output

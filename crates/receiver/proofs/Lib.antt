@@ -4,7 +4,7 @@
 --     Pool       cells after one of them is put
 --     Ready      every message and every call leaves a sound state sound
 --     Calls      a receiving call by cases
---     Standing   where messages stand in a well_formed_lem frame
+--     Standing   where messages stand in a well-formed frame
 --     Bounds     the place that a refusal names, and the greatest number, lie within bounds
 --     Reserved   reserved flag bits are ignored
 --     Weight     no octet is handed out twice

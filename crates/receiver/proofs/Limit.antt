@@ -13,7 +13,6 @@ use Rattle.wire.specs.Frame.{Item, items, checked, Sized}
 use Rattle.wire.specs.declared.Checked.TheVariants.{Accepted}
 use Rattle.wire.proofs.Places.{taken}
 use Rattle.wire.proofs.Order.{leads, few-items, few-from}
-use Rattle.pieces.specs.declared.Order.{Order}
 use Rattle.pieces.specs.Pieces.{bundle_max}
 use Rattle.rows.specs.Message.{Draft, Board, Handed, step, messages_from}
 use Rattle.messages.specs.declared.Limits.{Limits}

@@ -1,4 +1,4 @@
--- Where messages stand in a well_formed_lem frame.
+-- Where messages stand in a well-formed frame.
 use mathlib.Core.Path.{◌≡◌, refl, sym, ap, ◌∙◌}
 use mathlib.Core.Bool.{true, false, ◌||◌}
 use mathlib.Core.List.{List, [], ◌∷◌, ◌++◌, append_assoc}

@@ -1,6 +1,6 @@
 -- What one message does to a board: first its window, then the row of its number (document 01, "Transfer window" and "One row").
 -- Over the draft and over the window size w.
-use Rattle.std.specs.Prelude.{Bool, true, false, cond, List, [], ◌∷◌, ℕ, suc, ◌*◌, get_or, take, drop, set}
+use Rattle.std.specs.Prelude.{true, false, cond, List, [], ◌∷◌, ℕ, suc, ◌*◌, get_or, take, drop, set}
 use Rattle.std.proofs.Math.Option.{Option, none, some}
 use Rattle.octets.specs.Octets.{put}
 use Rattle.wire.specs.Frame.{Item, items, scanned, from}

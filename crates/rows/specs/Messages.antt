@@ -1,5 +1,5 @@
 -- Messages one after another, over the window size w.
-use Rattle.std.specs.Prelude.{Bool, List, [], ◌∷◌, ◌++◌, map, ℕ}
+use Rattle.std.specs.Prelude.{List, [], ◌∷◌, ◌++◌, map, ℕ}
 use Rattle.std.proofs.Math.Option.{Option, none, some}
 use Rattle.wire.specs.Message.{Message}
 use Rattle.wire.specs.Frame.{Item}

@@ -21,7 +21,7 @@ use Rattle.writing.specs.Written.{written}
 use Rattle.writing.proofs.Written.{octets_bundle, octets_piece, octets_cancel, octets_padding}
 use Rattle.framing.specs.declared.State.{State}
 use Rattle.framing.specs.Answers.{Outcome}
-use Rattle.framing.specs.Placing.{bundle_max, room, rounded_up, index_in, piece_index, marks, ended, numbered, advanced, added, closed, placing}
+use Rattle.framing.specs.Placing.{bundle_max, room, index_in, piece_index, marks, ended, numbered, advanced, added, closed, placing}
 use Rattle.framing.proofs.Ways.{placing-ways}
 use Rattle.sender.specs.Answers.{StartReply, made}
 use Rattle.sender.specs.Sound.{sized, sound}

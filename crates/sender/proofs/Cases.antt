@@ -4,7 +4,7 @@ use Rattle.wire.specs.declared.Version.TheVariants.{Draft00, Draft02}
 use mathlib.Core.Path.{◌≡◌, refl}
 use mathlib.Core.List.{List, [], ◌∷◌, map}
 use Prim.Native.Nat.{ℕ, zero, suc, ◌+◌, ◌*◌, ◌/◌, ◌%◌}
-use lib.ListN.{length, drop, replicate}
+use lib.ListN.{drop, replicate}
 use Rattle.octets.specs.Octets.{number, be32, put}
 use Rattle.wire.specs.Message.{skipped, bundle, segment, last, Read, good, kind, content_length}
 use Rattle.wire.specs.Layout.{zeros, kind_of, length_field, chain, hints, fitting, message, content, body, bodied, headed, read}

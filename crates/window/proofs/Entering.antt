@@ -1,5 +1,5 @@
 -- Which rows a new number enters: those of the numbers after the greatest, its own the last of them.
-use Rattle.std.proofs.Common.{◌≡◌, ℕ, zero, suc, ◌+◌, ◌-◌, ◌/◌, ◌%◌, ◌^◌, ◌<◌, ◌≤◌, Bool, true, false, eqb, ltb, leb, ◌⊎◌, sym, refl, ap, ◌∙◌, inl, inr, arith, le-ltb, lt-ltb}
+use Rattle.std.proofs.Common.{◌≡◌, ℕ, zero, suc, ◌+◌, ◌-◌, ◌/◌, ◌%◌, ◌^◌, ◌<◌, ◌≤◌, Bool, true, false, eqb, leb, ◌⊎◌, sym, refl, ap, ◌∙◌, inl, inr, arith, le-ltb, lt-ltb}
 use borrow.Author.Tests.{eqb-false}
 use Rattle.octets.proofs.Flags.{bool}
 use Rattle.window.specs.declared.Standing.TheVariants.{Inside, New, Outside}

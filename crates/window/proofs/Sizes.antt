@@ -1,6 +1,5 @@
 -- The three windows.
-use Rattle.std.proofs.Common.{◌≡◌, ℕ, ◌≤◌, Bool, true, false, ◌||◌, eqb, ◌⊎◌, sym, refl, inl, inr, arith, eqb-true}
-use borrow.Author.Tests.{eqb-false}
+use Rattle.std.proofs.Common.{◌≡◌, ℕ, ◌≤◌, true, false, eqb, ◌⊎◌, refl, inl, inr, arith, eqb-true}
 use Rattle.octets.proofs.Flags.{bool}
 use Rattle.window.specs.Window.{Window, four, eight, sixteen, is_window}
 

@@ -2,14 +2,12 @@
 use mathlib.Core.Path.{◌≡◌, refl, sym, ap, ◌∙◌}
 use mathlib.Core.Bool.{Bool, true, false, cond}
 use mathlib.Core.List.{List}
-use mathlib.Core.Logic.{◌⊎◌, inl, inr}
 use Prim.Native.Nat.{ℕ, zero, suc, ◌+◌, ◌-◌, ◌%◌, ◌≤◌}
 use native.Mathlib.Omega.{arith}
 use lib.ListN.{length, get_or, take, drop, length-take, length-drop}
 use lib.Seq.{drop-drop}
 use lib.Dec.{eqb, ltb}
 use borrow.Author.Tests.{ltb-false, leb-true, eqb-true}
-use denote.Enum.Declared.{tag_of}
 use Rattle.wire.specs.declared.Kind.{Kind}
 use Rattle.wire.specs.declared.Kind.TheVariants.{Skipped, Bundle, Segment, End, Cancel}
 use Rattle.wire.specs.declared.Hints.TheVariants.{Left, Overrun}
@@ -18,7 +16,6 @@ use Rattle.wire.specs.declared.Reading.TheVariants.{Good, Bad}
 use Rattle.wire.specs.Message.{kind, content_length, span, answer}
 use Rattle.wire.specs.Layout.{Chain, overrun, behind, chain, hints, left, fitting, message, content, body}
 use Rattle.wire.proofs.Apart.{left-overrun}
-use Rattle.wire.specs.contracts.Kind.{the_type}
 
 -- The octets behind a chain are a tail of those before it.
 pub data Tail (xs : List ℕ) : Chain → Type 0 where

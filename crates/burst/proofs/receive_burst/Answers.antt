@@ -5,7 +5,7 @@ use Prim.Native.Nat.{ℕ, ◌≤◌}
 use native.Mathlib.Omega.{arith}
 use lib.ListN.{length}
 use Rattle.rows.specs.State.{window_of}
-use Rattle.rows.specs.Message.{Draft, draft_of, Board}
+use Rattle.rows.specs.Message.{draft_of, Board}
 use Rattle.messages.specs.Run.{going, begun}
 use Rattle.frames.specs.Frames.{set_out, through}
 use Rattle.burst.specs.declared.Refusal.{Refusal}

@@ -9,7 +9,7 @@ use Rattle.rows.specs.Message.{draft}
 use Rattle.messages.specs.Run.{going}
 use Rattle.receiver.specs.Receive.{number_of, unfit}
 use Rattle.frames.specs.Frames.{Reach, set_out}
-use Rattle.frames.proofs.Passing.{Passing, draft_at, goes_on, begins, ends, k<, inside, refuses, fits, stopped, passes}
+use Rattle.frames.proofs.Passing.{draft_at, goes_on, begins, ends, k<, inside, refuses, fits, stopped, passes}
 use borrow.Author.Rules.{rules}
 use Rattle.frames.proofs.run_frames.Goals as goal
 use Rattle.frames.proofs.run_frames.Goals.{In-loop-limits, After-reason_of-reason}

@@ -1,20 +1,9 @@
 -- `frames::run_frames` meets its contract. The invariant `Passing`: all frames from the beginning are those left from here.
-use mathlib.Core.Path.{◌≡◌, refl, sym, ap, ◌∙◌}
-use mathlib.Core.Bool.{true}
-use mathlib.Core.List.{List}
-use Prim.Native.Nat.{ℕ, ◌+◌, ◌-◌, ◌≤◌, ◌<◌, ◌^◌}
-use native.Mathlib.Omega.{arith}
-use lib.ListN.{length, get_or, take, drop}
-use Rattle.wire.specs.declared.Version.{Version}
-use Rattle.rows.specs.Message.{draft}
+use Prim.Native.Nat.{◌-◌}
+use lib.ListN.{length}
 use Rattle.messages.specs.Run.{going}
-use Rattle.receiver.specs.Receive.{number_of, unfit}
-use Rattle.frames.specs.Frames.{Reach, set_out}
-use Rattle.frames.proofs.Passing.{Passing, draft_at, goes_on, begins, ends, k<, inside, refuses, fits, stopped, passes}
-use Rattle.frames.proofs.run_frames.Lts as lts
-use Rattle.frames.proofs.run_frames.Tie as tie-at
-use Rattle.frames.proofs.run_frames.Reads as reads
-use borrow.Author.Rules.{rules}
+use Rattle.frames.specs.Frames.{set_out}
+use Rattle.frames.proofs.Passing.{Passing}
 use Rattle.frames.proofs.run_frames.Given as goal
 
 abbrev pub invariant-loop-limits : goal.invariant-loop-limits

@@ -1,5 +1,5 @@
 -- `framing::advanced` meets its contract.
-use Rattle.std.proofs.Common.{rules, eq-eqb, ne_eqb}
+use Rattle.std.proofs.Common.{eq-eqb, ne_eqb}
 use Rattle.framing.specs.Answers.{reply}
 use Rattle.framing.specs.Placing.{advanced}
 use Rattle.framing.proofs.advanced.Goals as goal

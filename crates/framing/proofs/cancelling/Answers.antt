@@ -1,5 +1,5 @@
 -- `framing::cancelling` meets its contract.
-use Rattle.std.proofs.Common.{sym, arith, rules}
+use Rattle.std.proofs.Common.{sym, arith}
 use Rattle.wire.specs.Message as Message
 use Rattle.wire.specs.Message.{content_length}
 use Rattle.writing.proofs.Written.{length-written}

@@ -1,7 +1,6 @@
 -- `framing::close` meets its contract.
 use Rattle.framing.specs.Answers.{reply}
 use Rattle.framing.specs.Placing.{closed}
-use Rattle.std.proofs.Common.{rules}
 use Rattle.framing.proofs.close.Goals as goal
 
 pub returns : goal.returns

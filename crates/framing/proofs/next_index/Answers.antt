@@ -1,5 +1,4 @@
 -- `framing::next_index` meets its contract.
-use Rattle.std.proofs.Common.{rules}
 use Rattle.framing.proofs.next_index.Goals as goal
 
 pub returns-in-Draft00 : goal.returns-in-Draft00

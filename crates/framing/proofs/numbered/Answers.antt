@@ -1,6 +1,5 @@
 -- `framing::numbered` meets its contract.
 use Rattle.framing.proofs.Steps.{is-numbered}
-use Rattle.std.proofs.Common.{rules}
 use Rattle.framing.proofs.numbered.Goals as goal
 
 pub returns-then-s : goal.returns-then-s

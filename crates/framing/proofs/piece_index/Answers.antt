@@ -1,5 +1,5 @@
 -- `framing::piece_index` meets its contract.
-use Rattle.std.proofs.Common.{sym, ◌∙◌, arith, rules}
+use Rattle.std.proofs.Common.{sym, ◌∙◌, arith}
 use Rattle.framing.proofs.Steps.{index-begun, index-first}
 use Rattle.framing.proofs.piece_index.Goals as goal
 

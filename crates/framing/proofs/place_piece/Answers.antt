@@ -1,5 +1,5 @@
 -- `framing::place_piece` meets its contract.
-use Rattle.std.proofs.Common.{ℕ, ◌+◌, ◌-◌, refl, arith, length-drop, length-take, rules}
+use Rattle.std.proofs.Common.{ℕ, ◌+◌, ◌-◌, refl, arith, length-drop, length-take}
 use Rattle.framing.proofs.Steps.{last-piece, next-piece}
 use Rattle.framing.proofs.place_piece.Goals as goal
 

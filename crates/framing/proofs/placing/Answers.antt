@@ -1,9 +1,9 @@
 -- `framing::placing` meets its contract.
-use Rattle.std.proofs.Common.{◌-◌, sym, refl, ◌∙◌, arith, rules, le-leb}
+use Rattle.std.proofs.Common.{◌-◌, sym, refl, ◌∙◌, arith, le-leb}
 use borrow.Author.Tests.{lt-leb}
 use Rattle.wire.specs.Message.{bundle, content_length}
 use Rattle.writing.proofs.Written.{length-written}
-use Rattle.framing.specs.Placing.{tight, placing}
+use Rattle.framing.specs.Placing.{placing}
 use Rattle.framing.proofs.Steps.{loose, is-added}
 use Rattle.framing.proofs.placing.Goals as goal
 

@@ -1,5 +1,5 @@
 -- `framing::start_index` meets its contract.
-use Rattle.std.proofs.Common.{◌+◌, ◌-◌, refl, div-le_self, arith, rules}
+use Rattle.std.proofs.Common.{◌+◌, ◌-◌, refl, div-le_self, arith}
 use Rattle.framing.proofs.start_index.Goals as goal
 
 pub overflow_cast-result : goal.overflow_cast-result

@@ -1,11 +1,9 @@
 use mathlib.Core.Bool.{false}
 use mathlib.Core.List.{List, []}
-use mathlib.Core.Path.{◌≡◌, refl, sym, ap, ◌∙◌}
+use mathlib.Core.Path.{◌≡◌, sym, ap, ◌∙◌}
 use Prim.Native.Nat.{◌+◌, ◌≤◌, ℕ, ◌-◌, ◌^◌, ◌<◌}
 use native.Mathlib.Omega.{arith}
 use lib.ListN.{get_or, set, length}
-use Rattle.wire.specs.Layout.{read}
-use Rattle.window.specs.Window.{Window, is_window}
 use Rattle.window.proofs.Sizes.{is_window_lem, window_range}
 use Rattle.pieces.specs.declared.Order.{Order}
 use Rattle.pieces.specs.Pieces.{bundle_max}
@@ -22,13 +20,11 @@ use Rattle.rows.specs.declared.Visit.{Visit}
 use Rattle.rows.proofs.Rows.{length_mapped, get_d_any, sound-window}
 use Rattle.messages.specs.Run.{progressed, size, Run, going}
 use Rattle.messages.specs.declared.Progress.{Progress}
-use Rattle.messages.proofs.Looping.{goes_on, progressed-next, begins, ends, some_left, never_bad, passed, turned, v, at<, treated<, count<, room, place, slot<, fits, admit, found-sound, handed-fits, win, Going, Turn}
+use Rattle.messages.proofs.Looping.{goes_on, progressed-next, begins, ends, some_left, never_bad, passed, turned, v, at<, treated<, count<, room, place, slot<, fits, admit, found-sound, handed-fits, win, Turn}
 use Rattle.messages.proofs.Cells.{cell-within}
 use Rattle.messages.proofs.Visits.{visited, rows_for, rows-for-full, cleared, cleared-some, cleared-none, opened, opened_some, opened-none}
 use borrow.Author.Rules.{rules}
-use Rattle.wire.specs.declared.Version.{Version}
 use Rattle.messages.specs.declared.Limits.{Limits}
-use Rattle.reassembly.specs.declared.Taken.{Taken}
 use Rattle.messages.proofs.run.Goals as goal
 use Rattle.messages.proofs.run.Goals.{In-Good, Joined-v-gt1, Joined-v-gt0, After-cell_turn-t, then-v-gt1, else-v-gt1, then-v-gt0, else-v-gt0, else-loop-limits-test, then-loop-limits-test+in_default}
 
@@ -96,8 +92,9 @@ joined2 c =
     let d = c.visit_of-v.result.entered in
     let n = c.args.state.settings.window in
     elim c.if-v-gt1.branch [
-      then-v-gt1 w ↦ w.rows-is ∙ w.freed-rows.ensures ∙ cleared-some n l.greatest d l.rows w.if-v-gt1.true
-    | else-v-gt1 w ↦ w.rows-is ∙ cleared-none n l.greatest d l.rows w.if-v-gt1.false ]
+      | then-v-gt1 w ↦ w.rows-is ∙ w.freed-rows.ensures ∙ cleared-some n l.greatest d l.rows w.if-v-gt1.true
+      | else-v-gt1 w ↦ w.rows-is ∙ cleared-none n l.greatest d l.rows w.if-v-gt1.false
+    ]
 
 joined3 : (c : Joined-v-gt0) → let s = c.args.state.settings in
     c.if-v-gt1.rows ≡ cleared s.window c.loop-limits.greatest c.visit_of-v.result.entered c.loop-limits.rows
@@ -107,8 +104,9 @@ joined3 c e =
     let x = c.visit_of-v.result in
     let made : c.if-v-gt0.rows ≡ opened x.slot x.entered rows =
     elim c.if-v-gt0.branch [
-      then-v-gt0 w ↦ w.rows-is ∙ ap (set rows x.slot) w.empty_row.ensures ∙ opened_some x.slot x.entered rows w.if-v-gt0.true
-    | else-v-gt0 w ↦ w.rows-is ∙ opened-none x.slot x.entered rows w.if-v-gt0.false ] in
+      | then-v-gt0 w ↦ w.rows-is ∙ ap (set rows x.slot) w.empty_row.ensures ∙ opened_some x.slot x.entered rows w.if-v-gt0.true
+      | else-v-gt0 w ↦ w.rows-is ∙ opened-none x.slot x.entered rows w.if-v-gt0.false
+    ] in
     made ∙ ap (opened x.slot x.entered) e
 
 abbrev vacant : Row
@@ -235,6 +233,7 @@ returns c =
     let test = sym c.more.ensures in
     let over : goes_on c.args.limits c.args.frame.now (going (record { present = c.loop-limits.present; greatest = c.loop-limits.greatest; rows = c.loop-limits.rows; settings = c.args.state.settings }) c.loop-limits.pool c.loop-limits.output c.loop-limits.lengths c.loop-limits.numbers c.loop-limits.progress) ≡ false =
     elim c.loop-limits-test.branch [
-      else-loop-limits-test w ↦ test ∙ w.loop-limits-test.false
-    | then-loop-limits-test+in_default w ↦ never_bad g (test ∙ w.loop-limits-test.true) _ (sym w.read_message.ensures ∙ w.in_default.is) ] in
+      | else-loop-limits-test w ↦ test ∙ w.loop-limits-test.false
+      | then-loop-limits-test+in_default w ↦ never_bad g (test ∙ w.loop-limits-test.true) _ (sym w.read_message.ensures ∙ w.in_default.is)
+    ] in
     rw c.ended.ensures (ends g over, record { sound = g.ready.sound; pooled = g.ready.pool; used = omega (arith, g.used, g.output) })

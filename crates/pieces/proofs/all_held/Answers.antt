@@ -1,12 +1,8 @@
-use mathlib.Core.Path.{◌≡◌, refl, sym, ◌∙◌}
-use mathlib.Core.Bool.{true}
-use Prim.Native.Nat.{◌+◌, ◌-◌, ◌≤◌}
+use mathlib.Core.Path.{refl, sym, ◌∙◌}
 use native.Mathlib.Omega.{arith}
-use lib.ListN.{take}
-use Rattle.octets.proofs.Rest.{rest}
 use Rattle.pieces.proofs.Lists.{has_here, has_there, has-none, all-turn, all_lacks, all_done}
-use Rattle.pieces.proofs.Passing.{Left, left-past}
-use Rattle.pieces.specs.Pieces.{has, has_all}
+use Rattle.pieces.proofs.Passing.{left-past}
+use Rattle.pieces.specs.Pieces.{has_all}
 use borrow.Author.Rules.{rules}
 use Rattle.pieces.proofs.all_held.Goals as goal
 

@@ -1,14 +1,11 @@
 -- `pieces::all_held` meets its contract. The outer loop has found every index below i, and the others lie from its place on; the inner one has passed no piece of i. Assumes nothing.
-use mathlib.Core.Path.{◌≡◌, refl, sym, ◌∙◌}
+use mathlib.Core.Path.{◌≡◌}
 use mathlib.Core.Bool.{true}
 use Prim.Native.Nat.{◌+◌, ◌-◌, ◌≤◌}
-use native.Mathlib.Omega.{arith}
 use lib.ListN.{take}
 use Rattle.octets.proofs.Rest.{rest}
-use Rattle.pieces.proofs.Lists.{has_here, has_there, has-none, all-turn, all_lacks, all_done}
-use Rattle.pieces.proofs.Passing.{Left, left-past}
+use Rattle.pieces.proofs.Passing.{Left}
 use Rattle.pieces.specs.Pieces.{has, has_all}
-use borrow.Author.Rules.{rules}
 use Rattle.pieces.proofs.all_held.Given as goal
 
 abbrev pub invariant-loop-k : goal.invariant-loop-k

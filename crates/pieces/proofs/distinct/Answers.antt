@@ -1,11 +1,7 @@
-use mathlib.Core.Bool.{not, ◌&&◌}
-use mathlib.Core.Path.{◌≡◌, refl}
-use Prim.Native.Nat.{◌-◌}
+use mathlib.Core.Path.{refl}
 use native.Mathlib.Omega.{arith}
-use lib.ListN.{length, take, length-set}
-use Rattle.octets.proofs.Rest.{rest}
-use Rattle.pieces.proofs.Apart.{apart, apart_none, apart-high, apart-turn, apart-end}
-use Rattle.pieces.specs.Pieces.{low_and_distinct}
+use lib.ListN.{length-set}
+use Rattle.pieces.proofs.Apart.{apart_none, apart-high, apart-turn, apart-end}
 use Rattle.pieces.proofs.distinct.Goals as goal
 
 pub loop-k-init : goal.loop-k-init

@@ -1,11 +1,10 @@
 -- `pieces::distinct` meets its contract. The table holds the indexes passed: the answer is `apart` of the rest, if none came twice.
 use mathlib.Core.Bool.{not, ◌&&◌}
-use mathlib.Core.Path.{◌≡◌, refl}
+use mathlib.Core.Path.{◌≡◌}
 use Prim.Native.Nat.{◌-◌}
-use native.Mathlib.Omega.{arith}
-use lib.ListN.{length, take, length-set}
+use lib.ListN.{length, take}
 use Rattle.octets.proofs.Rest.{rest}
-use Rattle.pieces.proofs.Apart.{apart, apart_none, apart-high, apart-turn, apart-end}
+use Rattle.pieces.proofs.Apart.{apart}
 use Rattle.pieces.specs.Pieces.{low_and_distinct}
 use Rattle.pieces.proofs.distinct.Given as goal
 

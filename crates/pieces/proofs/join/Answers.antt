@@ -1,9 +1,9 @@
 use mathlib.Core.Path.{◌≡◌, refl, ◌∙◌}
 use mathlib.Core.List.{List}
-use Prim.Native.Nat.{ℕ, ◌+◌, ◌-◌, ◌≤◌, ◌<◌}
+use Prim.Native.Nat.{ℕ, ◌+◌, ◌≤◌, ◌<◌}
 use native.Mathlib.Omega.{arith}
 use lib.ListN.{length, take, get_or}
-use Rattle.octets.specs.Octets.{put, sum_of}
+use Rattle.octets.specs.Octets.{sum_of}
 use Rattle.pieces.specs.Pieces.{size_of}
 use Rattle.pieces.specs.Search.{ordered}
 use Rattle.pieces.specs.declared.Order.{Order}

@@ -1,16 +1,9 @@
 -- `pieces::join` meets its contract. The first i pieces in the order of joining stand at the front of the output.
-use mathlib.Core.Path.{◌≡◌, refl, ◌∙◌}
-use mathlib.Core.List.{List}
-use Prim.Native.Nat.{ℕ, ◌+◌, ◌-◌, ◌≤◌, ◌<◌}
-use native.Mathlib.Omega.{arith}
-use lib.ListN.{length, take, get_or}
-use Rattle.octets.specs.Octets.{put, sum_of}
-use Rattle.pieces.specs.Pieces.{size_of}
-use Rattle.pieces.specs.Search.{ordered}
-use Rattle.pieces.specs.declared.Order.{Order}
-use Rattle.pieces.specs.Note.{Right}
-use Rattle.pieces.proofs.Joining.{front, ordered-low, front-part, front-turn, front-done, front-zero}
-use Rattle.pieces.proofs.Noting.{Lies, lies}
+use mathlib.Core.Path.{◌≡◌}
+use Prim.Native.Nat.{◌+◌, ◌-◌, ◌≤◌}
+use lib.ListN.{length, take}
+use Rattle.octets.specs.Octets.{put}
+use Rattle.pieces.proofs.Joining.{front}
 use Rattle.pieces.proofs.join.Given as goal
 
 abbrev pub invariant-loop-i : goal.invariant-loop-i

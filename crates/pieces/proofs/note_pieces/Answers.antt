@@ -1,10 +1,8 @@
 use mathlib.Core.Path.{◌≡◌, refl, sym, ◌∙◌}
-use Prim.Native.Nat.{◌+◌, ◌-◌, ◌≤◌}
+use Prim.Native.Nat.{◌+◌}
 use native.Mathlib.Omega.{arith}
-use lib.ListN.{length, take, get_or}
+use lib.ListN.{get_or}
 use Rattle.octets.specs.Octets.{sum_of}
-use Rattle.pieces.specs.Pieces.{bundle_max}
-use Rattle.pieces.specs.Note.{Right}
 use Rattle.octets.proofs.Rest.{rest, sum-turn}
 use Rattle.pieces.proofs.Appending.{sum-next}
 use Rattle.pieces.proofs.Noting.{right-none, right-turn}

@@ -1,14 +1,11 @@
 -- `pieces::note_pieces` meets its contract. The note is right for the pieces before k, and the piece at k starts where they end.
-use mathlib.Core.Path.{◌≡◌, refl, sym, ◌∙◌}
+use mathlib.Core.Path.{◌≡◌}
 use Prim.Native.Nat.{◌+◌, ◌-◌, ◌≤◌}
-use native.Mathlib.Omega.{arith}
-use lib.ListN.{length, take, get_or}
+use lib.ListN.{length, take}
 use Rattle.octets.specs.Octets.{sum_of}
 use Rattle.pieces.specs.Pieces.{bundle_max}
 use Rattle.pieces.specs.Note.{Right}
-use Rattle.octets.proofs.Rest.{rest, sum-turn}
-use Rattle.pieces.proofs.Appending.{sum-next}
-use Rattle.pieces.proofs.Noting.{right-none, right-turn}
+use Rattle.octets.proofs.Rest.{rest}
 use Rattle.pieces.proofs.note_pieces.Given as goal
 
 abbrev pub invariant-loop-k : goal.invariant-loop-k

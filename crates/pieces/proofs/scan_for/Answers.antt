@@ -1,11 +1,6 @@
-use mathlib.Core.Path.{◌≡◌, refl}
-use mathlib.Core.Bool.{◌||◌}
-use Prim.Native.Nat.{◌-◌}
+use mathlib.Core.Path.{refl}
 use native.Mathlib.Omega.{arith}
-use lib.ListN.{take}
-use Rattle.octets.proofs.Rest.{rest}
 use Rattle.pieces.proofs.Lists.{has-turn, above-turn, has_end, above-end}
-use Rattle.pieces.specs.Pieces.{has, has_above}
 use Rattle.pieces.proofs.scan_for.Goals as goal
 
 pub loop-k-init : goal.loop-k-init

@@ -1,11 +1,9 @@
 -- `pieces::scan_for` meets its contract. What is yet to be looked at, joined to what was found, is the answer for the whole list. Assumes nothing.
-use mathlib.Core.Path.{◌≡◌, refl}
+use mathlib.Core.Path.{◌≡◌}
 use mathlib.Core.Bool.{◌||◌}
 use Prim.Native.Nat.{◌-◌}
-use native.Mathlib.Omega.{arith}
 use lib.ListN.{take}
 use Rattle.octets.proofs.Rest.{rest}
-use Rattle.pieces.proofs.Lists.{has-turn, above-turn, has_end, above-end}
 use Rattle.pieces.specs.Pieces.{has, has_above}
 use Rattle.pieces.proofs.scan_for.Given as goal
 

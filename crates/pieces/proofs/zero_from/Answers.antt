@@ -1,11 +1,7 @@
-use mathlib.Core.Path.{◌≡◌, refl}
-use mathlib.Core.Bool.{◌&&◌}
-use Prim.Native.Nat.{◌-◌, ◌*◌, ◌≤◌}
+use mathlib.Core.Path.{refl}
 use native.Mathlib.Omega.{arith}
-use lib.ListN.{drop}
-use lib.Dec.{eqb}
 use Rattle.pieces.proofs.Lists.{zeros-turn, zeros-end}
-use Rattle.pieces.specs.Pieces.{is_zeros, zero_from}
+use Rattle.pieces.specs.Pieces.{zero_from}
 use Rattle.pieces.proofs.zero_from.Goals as goal
 
 pub loop-k-init : goal.loop-k-init

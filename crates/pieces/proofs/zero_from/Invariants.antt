@@ -1,12 +1,10 @@
 -- `pieces::zero_from` meets its contract. The sum so far is zero and the entries left are zero exactly where all are. Assumes nothing.
-use mathlib.Core.Path.{◌≡◌, refl}
+use mathlib.Core.Path.{◌≡◌}
 use mathlib.Core.Bool.{◌&&◌}
 use Prim.Native.Nat.{◌-◌, ◌*◌, ◌≤◌}
-use native.Mathlib.Omega.{arith}
 use lib.ListN.{drop}
 use lib.Dec.{eqb}
-use Rattle.pieces.proofs.Lists.{zeros-turn, zeros-end}
-use Rattle.pieces.specs.Pieces.{is_zeros, zero_from}
+use Rattle.pieces.specs.Pieces.{is_zeros}
 use Rattle.pieces.proofs.zero_from.Given as goal
 
 abbrev pub invariant-loop-k : goal.invariant-loop-k

@@ -5,7 +5,7 @@ use Prim.Native.Nat.{ℕ}
 use native.Mathlib.Omega.{arith}
 use Rattle.wire.proofs.Spans.{sized}
 use Rattle.rows.specs.State.{window_of}
-use Rattle.rows.specs.Message.{Draft, draft_of, Board, messages_from}
+use Rattle.rows.specs.Message.{draft_of, Board, messages_from}
 use Rattle.receiver.specs.Receive.{refusal}
 use Rattle.receiver.specs.declared.Refusal.{Refusal}
 use Rattle.rows.specs.declared.Origin.TheVariants.{Whole}

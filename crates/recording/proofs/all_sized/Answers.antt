@@ -1,9 +1,5 @@
-use mathlib.Core.Path.{◌≡◌, refl}
-use mathlib.Core.Bool.{◌&&◌}
-use Prim.Native.Nat.{◌-◌, ◌≤◌}
+use mathlib.Core.Path.{refl}
 use native.Mathlib.Omega.{arith}
-use lib.ListN.{length, drop}
-use Rattle.recording.specs.Recording.{sized}
 use Rattle.recording.proofs.Lengths.{sized-turn, sized-end}
 use Rattle.recording.proofs.all_sized.Goals as goal
 

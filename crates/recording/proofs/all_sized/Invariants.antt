@@ -1,11 +1,9 @@
 -- `recording::all_sized` meets its contract. The lengths so far and those yet to be looked at decide together.
-use mathlib.Core.Path.{◌≡◌, refl}
+use mathlib.Core.Path.{◌≡◌}
 use mathlib.Core.Bool.{◌&&◌}
 use Prim.Native.Nat.{◌-◌, ◌≤◌}
-use native.Mathlib.Omega.{arith}
 use lib.ListN.{length, drop}
 use Rattle.recording.specs.Recording.{sized}
-use Rattle.recording.proofs.Lengths.{sized-turn, sized-end}
 use Rattle.recording.proofs.all_sized.Given as goal
 
 abbrev pub invariant-loop-k : goal.invariant-loop-k

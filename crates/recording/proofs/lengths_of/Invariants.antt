@@ -1,13 +1,8 @@
 -- `recording::lengths_of` meets its contract. The first j lengths are read.
-use Prim.Native.Nat.{ℕ}
-use mathlib.Core.Path.{◌≡◌, refl, sym, ap, ◌∙◌}
+use mathlib.Core.Path.{◌≡◌}
 use Prim.Native.Nat.{◌-◌, ◌≤◌}
-use native.Mathlib.Omega.{arith}
-use lib.ListN.{length, drop, length-set}
+use lib.ListN.{length, drop}
 use Rattle.octets.specs.Octets.{pairs, put}
-use Rattle.octets.proofs.Put.{put-none}
-use Rattle.recording.specs.Recording.{blank}
-use Rattle.recording.proofs.Lengths.{lengths_turn}
 use Rattle.recording.proofs.lengths_of.Given as goal
 
 abbrev pub invariant-loop-j : goal.invariant-loop-j

@@ -1,8 +1,8 @@
 use mathlib.Core.Path.{◌∙◌, ap, ◌≡◌, sym}
-use Prim.Native.Nat.{ℕ, ◌≤◌, ◌<◌, ◌+◌, ◌-◌, ◌%◌}
+use Prim.Native.Nat.{ℕ, ◌≤◌, ◌<◌, ◌+◌, ◌%◌}
 use native.Mathlib.Omega.{arith}
 use lib.ListN.{length-set, length}
-use Rattle.window.specs.Window.{Window, row_of, is_window}
+use Rattle.window.specs.Window.{Window}
 use Rattle.window.proofs.Entering.{row_below}
 use Rattle.window.proofs.Sizes.{window_of_lem, window_range}
 use Rattle.rows.specs.Message.{freed_from}

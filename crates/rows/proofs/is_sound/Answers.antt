@@ -1,8 +1,6 @@
-use mathlib.Core.Bool.{◌&&◌}
-use mathlib.Core.Path.{◌≡◌, refl}
-use Prim.Native.Nat.{◌≤◌, ◌-◌}
+use mathlib.Core.Path.{◌≡◌}
 use native.Mathlib.Omega.{arith}
-use lib.ListN.{length, drop}
+use lib.ListN.{length}
 use Rattle.rows.specs.State.{sound_from}
 use Rattle.rows.specs.State as Spec
 use Rattle.rows.proofs.Rows.{length_mapped, sound-turn, sound-end}

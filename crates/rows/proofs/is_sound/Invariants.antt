@@ -1,13 +1,10 @@
 -- `rows::is_sound` meets its contract.
 use mathlib.Core.Bool.{◌&&◌}
-use mathlib.Core.Path.{◌≡◌, refl}
+use mathlib.Core.Path.{◌≡◌}
 use Prim.Native.Nat.{◌≤◌, ◌-◌}
-use native.Mathlib.Omega.{arith}
-use lib.ListN.{length, drop}
+use lib.ListN.{drop}
 use Rattle.rows.specs.State.{sound_from}
 use Rattle.rows.specs.State as Spec
-use Rattle.rows.proofs.Rows.{length_mapped, sound-turn, sound-end}
-use borrow.Author.Rules.{rules}
 use Rattle.rows.proofs.is_sound.Given as goal
 
 abbrev pub invariant-loop-k : goal.invariant-loop-k

@@ -1,7 +1,7 @@
 -- `sender::flush` meets its contract.
 use mathlib.Core.Path.{sym, ◌∙◌}
 use native.Mathlib.Omega.{arith}
-use borrow.Author.Tests.{eq-eqb, ne_eqb, not-false}
+use borrow.Author.Tests.{eq-eqb, ne_eqb}
 use Rattle.framing.specs.Answers.{reply}
 use Rattle.sender.specs.Answers.{unless}
 use Rattle.sender.specs.Calls.{flush_cases, flush}

@@ -3,7 +3,7 @@ use mathlib.Core.Path.{◌≡◌, sym, ◌∙◌}
 use Prim.Native.Nat.{◌≤◌}
 use native.Mathlib.Omega.{arith}
 use lib.ListN.{length}
-use borrow.Author.Tests.{eq-eqb, ne_eqb, eqb-false, ltb-false, not-false}
+use borrow.Author.Tests.{eq-eqb, ne_eqb, eqb-false, ltb-false}
 use Rattle.octets.proofs.Flags.{neither}
 use Rattle.framing.specs.Placing.{bundle_max}
 use Rattle.framing.specs.Answers.{reply}

@@ -1,6 +1,5 @@
 -- `window::row_of` meets its contract.
 use Rattle.window.proofs.Sizes.{window_of_lem, the_least}
-use Rattle.std.proofs.Common.{rules}
 use Rattle.window.proofs.row_of.Goals as goal
 
 pub returns-then-window-eq16 : goal.returns-then-window-eq16

@@ -1,5 +1,5 @@
 -- `window::standing_at` meets its contract. Each return by the tests on its way.
-use Rattle.std.proofs.Common.{◌-◌, ◌^◌, arith, rules, eq-eqb, ne_eqb, le-leb}
+use Rattle.std.proofs.Common.{◌-◌, ◌^◌, arith, eq-eqb, ne_eqb, le-leb}
 use borrow.Author.Tests.{lt-leb}
 use Rattle.window.specs.Window.{standing}
 use Rattle.window.proofs.standing_at.Goals as goal

@@ -1,5 +1,5 @@
 -- `window::standing_of` meets its contract.
-use Rattle.std.proofs.Common.{◌≤◌, ap, ◌∙◌, arith, rules}
+use Rattle.std.proofs.Common.{◌≤◌, ap, ◌∙◌, arith}
 use Rattle.window.specs.Window.{standing, standing_of}
 use Rattle.window.proofs.Sizes.{window_of_lem, window_range}
 use Rattle.window.proofs.standing_of.Goals as goal

@@ -1,14 +1,12 @@
-use mathlib.Core.Path.{◌≡◌, sym, ap, ◌∙◌}
+use mathlib.Core.Path.{sym, ap, ◌∙◌}
 use mathlib.Core.Bool.{Bool, cond}
-use Prim.Native.Nat.{◌-◌, ◌≤◌}
 use native.Mathlib.Omega.{arith}
-use lib.ListN.{length}
 use Rattle.wire.specs.declared.Reading.{Reading}
 use Rattle.wire.specs.declared.Checked.TheVariants.{Accepted, Misplaced}
 use Rattle.wire.specs.Layout.{read}
-use Rattle.wire.specs.Frame.{judged, checked, reading_checked}
+use Rattle.wire.specs.Frame.{reading_checked}
 use Rattle.wire.proofs.Spans.{sized}
-use Rattle.wire.proofs.Frames.{scan_at, start, turn, stop, over}
+use Rattle.wire.proofs.Frames.{start, turn, stop, over}
 use Rattle.wire.proofs.check_frame.Goals as goal
 
 pub loop-at-init : goal.loop-at-init

@@ -1,16 +1,11 @@
 -- `wire::check_frame` meets its contract. The loop's invariant: what the whole frame is judged is what the rest of it, with the places
 -- seen so far, is judged.
-use mathlib.Core.Path.{◌≡◌, sym, ap, ◌∙◌}
-use mathlib.Core.Bool.{Bool, cond}
+use mathlib.Core.Path.{◌≡◌}
 use Prim.Native.Nat.{◌-◌, ◌≤◌}
-use native.Mathlib.Omega.{arith}
 use lib.ListN.{length}
-use Rattle.wire.specs.declared.Reading.{Reading}
-use Rattle.wire.specs.declared.Checked.TheVariants.{Accepted, Misplaced}
 use Rattle.wire.specs.Layout.{read}
-use Rattle.wire.specs.Frame.{judged, checked, reading_checked}
-use Rattle.wire.proofs.Spans.{sized}
-use Rattle.wire.proofs.Frames.{scan_at, start, turn, stop, over}
+use Rattle.wire.specs.Frame.{judged, checked}
+use Rattle.wire.proofs.Frames.{scan_at}
 use Rattle.wire.proofs.check_frame.Given as goal
 
 abbrev pub invariant-loop-at : goal.invariant-loop-at

@@ -1,10 +1,8 @@
 -- `wire::zeros_end` meets its contract. The loop's invariant: from the end reached, as many zero octets are left as make up the run.
-use mathlib.Core.Path.{◌≡◌, refl, ap}
+use mathlib.Core.Path.{◌≡◌}
 use Prim.Native.Nat.{◌+◌, ◌-◌, ◌≤◌}
-use native.Mathlib.Omega.{arith}
-use lib.ListN.{length, drop, drop_of_length-le}
+use lib.ListN.{length, drop}
 use Rattle.wire.specs.Layout.{zeros}
-use Rattle.wire.proofs.Runs.{zeros-more, zeros_stop, zeros_fit}
 use Rattle.wire.proofs.zeros_end.Given as goal
 
 abbrev pub invariant-loop-end : goal.invariant-loop-end

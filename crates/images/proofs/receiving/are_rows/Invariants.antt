@@ -1,10 +1,8 @@
 -- `images::receiving::are_rows` meets its contract. The first k rows are tested.
-use native.Mathlib.Omega.{arith}
-use mathlib.Core.Path.{◌≡◌, refl, ◌∙◌, ap}
-use Prim.Native.Nat.{ℕ, ◌≤◌, ◌-◌}
+use mathlib.Core.Path.{◌≡◌}
+use Prim.Native.Nat.{◌≤◌, ◌-◌}
 use lib.ListN.{drop}
 use Rattle.images.specs.Receiver.{are_rows}
-use Rattle.images.proofs.Rows.{are_rows_turn}
 use Rattle.images.proofs.receiving.are_rows.Given as goal
 
 abbrev pub invariant-loop-k : goal.invariant-loop-k

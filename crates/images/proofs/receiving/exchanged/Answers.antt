@@ -1,10 +1,8 @@
 use native.Mathlib.Omega.{arith}
-use mathlib.Core.Path.{◌≡◌, refl, sym, ◌∙◌}
-use mathlib.Core.List.{map}
-use Prim.Native.Nat.{◌≤◌, ◌-◌}
-use lib.ListN.{length, length-set}
+use mathlib.Core.Path.{refl, sym, ◌∙◌}
+use lib.ListN.{length-set}
 use Rattle.images.specs.Receiver.{exchange}
-use Rattle.octets.proofs.Series.{map_from, map-turn, map-end}
+use Rattle.octets.proofs.Series.{map-turn, map-end}
 use Rattle.images.proofs.receiving.exchanged.Goals as goal
 
 pub loop-j-init : goal.loop-j-init

@@ -1,11 +1,10 @@
 -- `images::receiving::exchanged` meets its contract. The first j numbers are exchanged.
-use native.Mathlib.Omega.{arith}
-use mathlib.Core.Path.{◌≡◌, refl, sym, ◌∙◌}
+use mathlib.Core.Path.{◌≡◌}
 use mathlib.Core.List.{map}
 use Prim.Native.Nat.{◌≤◌, ◌-◌}
-use lib.ListN.{length, length-set}
+use lib.ListN.{length}
 use Rattle.images.specs.Receiver.{exchange}
-use Rattle.octets.proofs.Series.{map_from, map-turn, map-end}
+use Rattle.octets.proofs.Series.{map_from}
 use Rattle.images.proofs.receiving.exchanged.Given as goal
 
 abbrev pub invariant-loop-j : goal.invariant-loop-j

@@ -1,15 +1,10 @@
 -- `images::receiving::pairs_of` meets its contract. The first j numbers are read.
-use native.Mathlib.Omega.{arith}
-use mathlib.Core.Path.{◌≡◌, refl, ◌∙◌}
+use mathlib.Core.Path.{◌≡◌}
 use mathlib.Core.List.{map}
 use Prim.Native.Nat.{◌≤◌, ◌-◌}
-use lib.ListN.{length, take, drop, length-set, length-map}
-use lib.Seq.{get_or-drop}
-use native.Mathlib.Nat.{add-zero}
-use Rattle.octets.specs.Octets.{number16, pairs}
+use lib.ListN.{length, take, drop}
+use Rattle.octets.specs.Octets.{pairs}
 use Rattle.images.specs.Receiver.{exchange}
-use Rattle.octets.proofs.Pairs.{pairs-turn, pairs_end}
-use Rattle.octets.proofs.Series.{map-set}
 use Rattle.images.proofs.receiving.pairs_of.Given as goal
 
 abbrev pub invariant-loop-j : goal.invariant-loop-j

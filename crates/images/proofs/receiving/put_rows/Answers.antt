@@ -1,11 +1,9 @@
 use native.Mathlib.Omega.{arith}
 use mathlib.Core.Path.{◌≡◌, refl, sym}
-use Prim.Native.Nat.{◌*◌, ◌≤◌, ◌-◌}
-use lib.ListN.{length, take}
-use Rattle.octets.specs.Octets.{put}
+use lib.ListN.{length}
 use Rattle.octets.proofs.Put.{put-none}
 use Rattle.rows.proofs.Rows.{length_mapped}
-use Rattle.images.specs.Receiver.{row_size, rows_image}
+use Rattle.images.specs.Receiver.{rows_image}
 use Rattle.images.proofs.Rows.{rows_image-turn, rows_image-end, length_rows_image}
 use borrow.Author.Rules.{rules}
 use Rattle.images.proofs.receiving.put_rows.Goals.{Start}

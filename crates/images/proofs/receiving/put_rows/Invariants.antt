@@ -1,14 +1,9 @@
 -- `images::receiving::put_rows` meets its contract. The first k rows are written.
-use native.Mathlib.Omega.{arith}
-use mathlib.Core.Path.{◌≡◌, refl, sym}
+use mathlib.Core.Path.{◌≡◌}
 use Prim.Native.Nat.{◌*◌, ◌≤◌, ◌-◌}
 use lib.ListN.{length, take}
 use Rattle.octets.specs.Octets.{put}
-use Rattle.octets.proofs.Put.{put-none}
-use Rattle.rows.proofs.Rows.{length_mapped}
 use Rattle.images.specs.Receiver.{row_size, rows_image}
-use Rattle.images.proofs.Rows.{rows_image-turn, rows_image-end, length_rows_image}
-use borrow.Author.Rules.{rules}
 use Rattle.images.proofs.receiving.put_rows.Given as goal
 
 abbrev pub invariant-loop-k : goal.invariant-loop-k

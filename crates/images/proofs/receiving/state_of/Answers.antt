@@ -1,10 +1,7 @@
 use native.Mathlib.Omega.{arith}
-use mathlib.Core.Path.{◌≡◌, refl}
-use Prim.Native.Nat.{◌≤◌, ◌-◌}
-use lib.ListN.{length, get_or, take, drop, length-set}
-use lib.Dec.{eqb}
-use Rattle.octets.specs.Octets.{number}
-use Rattle.images.specs.Receiver.{version_of, rows_of, state_of}
+use mathlib.Core.Path.{refl}
+use lib.ListN.{length-set}
+use Rattle.images.specs.Receiver.{rows_of, state_of}
 use Rattle.images.proofs.Rows.{rows_turn, rows_end}
 use Rattle.images.proofs.receiving.state_of.Goals as goal
 

@@ -1,12 +1,10 @@
 -- `images::receiving::state_of` meets its contract. The head and the first k rows are read.
-use native.Mathlib.Omega.{arith}
-use mathlib.Core.Path.{◌≡◌, refl}
+use mathlib.Core.Path.{◌≡◌}
 use Prim.Native.Nat.{◌≤◌, ◌-◌}
-use lib.ListN.{length, get_or, take, drop, length-set}
+use lib.ListN.{length, get_or, take, drop}
 use lib.Dec.{eqb}
 use Rattle.octets.specs.Octets.{number}
-use Rattle.images.specs.Receiver.{version_of, rows_of, state_of}
-use Rattle.images.proofs.Rows.{rows_turn, rows_end}
+use Rattle.images.specs.Receiver.{version_of, rows_of}
 use Rattle.images.proofs.receiving.state_of.Given as goal
 
 abbrev pub invariant-loop-k : goal.invariant-loop-k
