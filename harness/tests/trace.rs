@@ -112,5 +112,5 @@ fn other_names_are_not_declared() {
     assert!(declares(&text, "step"));
     assert!(!declares(&text, "stepp"));
     assert!(!declares(&text, "protocol"), "a word of a comment");
-    assert!(!declares(&text, "soundRow"), "what another file declares");
+    assert!(!declares(&text, "sound_row"), "what another file declares");
 }

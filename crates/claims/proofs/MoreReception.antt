@@ -19,7 +19,7 @@ use Rattle.claims.proofs.Track.{Course, begin, event, bundle_at, course_after, g
 use Rattle.claims.proofs.Window.{window_size}
 use Rattle.claims.proofs.Boards.{Tied, run-tied, fresh-tied}
 use Rattle.claims.proofs.Taking.{entries_of, frames_of, determined, calls-as}
-use Rattle.claims.proofs.Given as goal
+use Rattle.claims.proofs.Given as Given
 use Rattle.claims.proofs.Given.{Expected, expected, Known, plain, numbered, Backed, given-run, given-begin}
 use Rattle.claims.proofs.Ahead.{Ahead, AllNear, near-append, all_near, both_run, more-run, begin-ahead, whole-too}
 
@@ -34,7 +34,7 @@ module _ {v : Version} (R : Record v) where
   Drawn es = (e : Entry) → Memᴰ e es → Memᴰ e.frame R.frames
 
   abbrev Gives : Course → List Delivery → Type 0
-  Gives a hs = goal.Given D.order T (InRecord R) a hs
+  Gives a hs = Given.Given D.order T (InRecord R) a hs
 
   all_expected : (f : List ℕ) → Memᴰ f R.frames → (m : Message) → Memᴰ m (messages D.read f) → Expected D.order T (InRecord R) (event T.first m)
   unfolding InRecord

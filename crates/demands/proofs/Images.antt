@@ -23,7 +23,7 @@ use Rattle.rows.specs.declared.State.{State}
 use Rattle.rows.specs.State as State
 use Rattle.rows.specs.State.{window_of, row_max, fresh}
 use Rattle.rows.specs.Message.{draft_of, Board}
-use Rattle.rows.proofs.Rows.{get_d_any, sound-window}
+use Rattle.rows.proofs.Rows.{get_or_any, sound-window}
 use Rattle.messages.specs.Run.{origin_number}
 use Rattle.receiver.specs.declared.Answer.{Answer}
 use Rattle.receiver.specs.declared.Answer.TheVariants.{Delivered, Finished, Refused}
@@ -54,7 +54,7 @@ good_of : {w : ℕ} (b : Board) → Ready w b → b.state.greatest < 2 ^ 32 → 
 good_of b r l = record { sound = r.sound; shaped = r.shaped; rows = r.rows; low = l }
 
 pub fits : (s : State) → Good s → StateFits s
-fits s g = sound_state_fits s g.sound g.rows g.low λ k z h. rw (get_d_any s.rows k z (empty_row Free) h) (g.shaped k (omega (arith, g.rows)))
+fits s g = sound_state_fits s g.sound g.rows g.low λ k z h. rw (get_or_any s.rows k z (empty_row Free) h) (g.shaped k (omega (arith, g.rows)))
 
 pub fresh_good : (v : Version) (w : ℕ) → Window w → Good (fresh v w)
 unfolding fresh

@@ -3,7 +3,7 @@
 --     length-put     a put within a list keeps its length
 --     put-none       a put of nothing
 --     put_whole      a put of all octets
---     read-back      what was put at the front is read there
+--     read_back      what was put at the front is read there
 --     put-put        a put behind a put is one put of the two joined; put_behind: where the second may reach beyond the end
 --     put-part       a turn of a loop that copies in parts; put_all: its end
 --     put_next       a store behind what was put; put_one: a store; set_beyond: a store behind the end

@@ -141,9 +141,9 @@ fn play_open<'a>(
     requires { (length sizes.now ≤ frames_max)
         × (sum_of sizes.now ≤ length joined.now)
         × (length joined.now ≤ octets_max) }
-    ensures { Call.reply result pool.new (Call.results output.new lengths.exit.now places.new reasons.new)
+    ensures { Call.reply result pool.new (Call.results output.new lengths.new places.new reasons.new)
         ≡ Call.play_frames (record { lengths = sizes.now; octets = joined.now }) limit pool.old
-        (Call.results output.old lengths.entry.now places.old reasons.old) }
+        (Call.results output.old lengths.old places.old reasons.old) }
 {
     if pool.len() != POOL {
         return Answer::Refused(Refusal::PoolSize);

@@ -22,7 +22,7 @@ fn show_size(rt: &impl Print, size: u16) -> io::Result<()> {
     print!(rt; " {size}")
 }
 
-fn show_sizes(rt: &impl Print, sizes: &[u16], frames: usize) -> io::Result<()> {
+fn show_sizes(rt: &impl Print, sizes: [u16; 1024], frames: usize) -> io::Result<()> {
     print!(rt; "sizes")?;
     for size in sizes.iter().take(frames) {
         show_size(rt, *size)?;
@@ -33,7 +33,7 @@ fn show_sizes(rt: &impl Print, sizes: &[u16], frames: usize) -> io::Result<()> {
 fn least(a: usize, b: usize) -> usize
     ensures { (result ≤ a) × (result ≤ b) }
 {
-    a.min(b)
+    if a < b { a } else { b }
 }
 
 // Shows a bundle of n octets; answers where the next one starts.
@@ -119,7 +119,7 @@ fn open(rt: &impl Print, file: &[u8]) -> io::Result<()> {
     match opened.answer {
         Opening::Good { frames, octets } => {
             println!(rt; "frames {frames} octets {octets}")?;
-            show_sizes(rt, &opened.lengths, frames)
+            show_sizes(rt, opened.lengths, frames)
         }
         Opening::Unreadable(refusal) => {
             println!(rt; "refused {}", recording::refusal_number(refusal))

@@ -165,7 +165,7 @@ pub fn octets_of(recording: &[u8], frames: usize) -> &[u8]
 
 // Refusals 17 to 19.
 fn unwritable<'a>(lengths: &'a [u16], joined: &'a [u8]) -> Verdict
-    ensures { result ≡ Spec.verdict (Spec.unwritable (record { lengths = lengths.entry.now; octets = joined.now })) }
+    ensures { result ≡ Spec.verdict (Spec.unwritable (record { lengths = lengths.now; octets = joined.now })) }
 {
     if (FRAMES_MAX < lengths.len()) | (OCTETS_MAX < joined.len()) {
         return Verdict::Unfit(Refusal::OverLimit);
@@ -176,7 +176,7 @@ fn unwritable<'a>(lengths: &'a [u16], joined: &'a [u8]) -> Verdict
 // Frames from their lengths and their joined octets.
 pub fn write<'a>(lengths: &'a [u16], joined: &'a [u8], output: &mut [u8]) -> Writing
     ensures { ◌≡◌ {A = Spec.Wrote} (record { answer = result; output = output.new })
-        (Spec.write (record { lengths = lengths.entry.now; octets = joined.now }) output.old) }
+        (Spec.write (record { lengths = lengths.now; octets = joined.now }) output.old) }
 {
     let v = unwritable(lengths, joined);
     if let Verdict::Unfit(refusal) = v {

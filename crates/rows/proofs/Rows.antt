@@ -30,10 +30,10 @@ pub length_mapped : (X Y : Type 0) (f : X → Y) (l : List X) (n : ℕ) → leng
 length_mapped X Y f l n e = sym (length-map l f) ∙ e
 
 -- what is past the end does not matter within a list
-pub get_d_any : (rows : List Row) (i : ℕ) (y z : Row) → i < length rows → get_or rows i y ≡ get_or rows i z
-get_d_any [] i y z h = absurd (omega arith)
-get_d_any (x ∷ xs) zero y z h = refl
-get_d_any (x ∷ xs) (suc i) y z h = get_d_any xs i y z (omega arith)
+pub get_or_any : (rows : List Row) (i : ℕ) (y z : Row) → i < length rows → get_or rows i y ≡ get_or rows i z
+get_or_any [] i y z h = absurd (omega arith)
+get_or_any (x ∷ xs) zero y z h = refl
+get_or_any (x ∷ xs) (suc i) y z h = get_or_any xs i y z (omega arith)
 
 -- ---- soundness, row by row
 

@@ -17,7 +17,7 @@ use Rattle.rows.specs.Message.{order_of}
 use Rattle.rows.specs.declared.Origin.{Origin}
 use Rattle.rows.specs.declared.Origin.TheVariants.{Whole}
 use Rattle.rows.specs.declared.Visit.{Visit}
-use Rattle.rows.proofs.Rows.{length_mapped, get_d_any, sound-window}
+use Rattle.rows.proofs.Rows.{length_mapped, get_or_any, sound-window}
 use Rattle.messages.specs.Run.{progressed, size, Run, going}
 use Rattle.messages.specs.declared.Progress.{Progress}
 use Rattle.messages.proofs.Looping.{goes_on, progressed-next, begins, ends, some_left, never_bad, passed, turned, v, at<, treated<, count<, room, place, slot<, fits, admit, found-sound, handed-fits, win, Turn}
@@ -81,7 +81,7 @@ module _ {limits : Limits} {frame : List ℕ} {p₀ p : Run} (t : Turn limits fr
     row-found : get_or rows x.slot d ≡ get_or rows x.slot (empty_row Free)
     row-found =
         let wide : w ≤ length p.board.state.rows = t.going.ready.rows in
-        get_d_any rows x.slot d (empty_row Free) (omega (arith, slot-in, wide, ap length er, rows-for-full w (win t) order p.board t.going.ready x))
+        get_or_any rows x.slot d (empty_row Free) (omega (arith, slot-in, wide, ap length er, rows-for-full w (win t) order p.board t.going.ready x))
 
     row_is : get_or rows x.slot d ≡ visited w order p.board (v t)
     row_is = row-found ∙ ap (λ (rs : List Row). get_or rs x.slot (empty_row Free)) er ∙ ap (visited w order p.board) e
