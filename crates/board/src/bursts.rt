@@ -4,8 +4,7 @@ ghost use Rattle.burst.specs.Burst as Call;
 ghost use Rattle.board.specs.Burst as Spec;
 
 // Takes up to 64 frames in one call.
-#[unsafe(no_mangle)]
-pub extern "C" fn btpu_receive_burst<'a>(
+pub fn btpu_receive_burst<'a>(
     state: &mut [u8; 3144],
     pool: &mut [u8],
     sizes: &'a [u16],

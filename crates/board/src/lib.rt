@@ -2,7 +2,7 @@
 // number returned. include/btpu.h documents them.
 #![tactic(auto)]
 
-mod bursts;
-mod receiving;
-mod recordings;
-mod sending;
+pub mod bursts;
+pub mod receiving;
+pub mod recordings;
+pub mod sending;

@@ -20,30 +20,26 @@ fn begin(version: Version, state: &mut [u8; 3144], window: u32) -> u32
 }
 
 // A receiver of draft 02 with the plain window.
-#[unsafe(no_mangle)]
-pub extern "C" fn btpu_receiver_start(state: &mut [u8; 3144]) -> u32
+pub fn btpu_receiver_start(state: &mut [u8; 3144]) -> u32
     ensures { ◌≡◌ {A = ℕ × List ℕ} (result, state.new) (Spec.started Draft02 state.old plain_window) }
 {
     begin(Version::Draft02, state, window::PLAIN)
 }
 
-#[unsafe(no_mangle)]
-pub extern "C" fn btpu_receiver_start_window(state: &mut [u8; 3144], window: u32) -> u32
+pub fn btpu_receiver_start_window(state: &mut [u8; 3144], window: u32) -> u32
     ensures { ◌≡◌ {A = ℕ × List ℕ} (result, state.new) (Spec.started Draft02 state.old window) }
 {
     begin(Version::Draft02, state, window)
 }
 
-#[unsafe(no_mangle)]
-pub extern "C" fn btpu_receiver_start_00(state: &mut [u8; 3144], window: u32) -> u32
+pub fn btpu_receiver_start_00(state: &mut [u8; 3144], window: u32) -> u32
     ensures { ◌≡◌ {A = ℕ × List ℕ} (result, state.new) (Spec.started Draft00 state.old window) }
 {
     begin(Version::Draft00, state, window)
 }
 
 // Whether an image is a sound state.
-#[unsafe(no_mangle)]
-pub extern "C" fn btpu_receiver_check(state: &[u8; 3144]) -> u32
+pub fn btpu_receiver_check(state: &[u8; 3144]) -> u32
     ensures { result ≡ Spec.checked state.now }
 {
     if images::receiving::is_image(state) {
@@ -55,8 +51,7 @@ pub extern "C" fn btpu_receiver_check(state: &[u8; 3144]) -> u32
 }
 
 // The receiving call on an image.
-#[unsafe(no_mangle)]
-pub extern "C" fn btpu_receive(
+pub fn btpu_receive(
     state: &mut [u8; 3144],
     pool: &mut [u8],
     frame: &[u8],

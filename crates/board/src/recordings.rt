@@ -7,8 +7,7 @@ use playback::Answer;
 use recording::{Opening, Writing};
 
 // Writes frames as a recording.
-#[unsafe(no_mangle)]
-pub extern "C" fn btpu_record<'a>(
+pub fn btpu_record<'a>(
     sizes: &'a [u16],
     joined: &'a [u8],
     output: &mut [u8],
@@ -30,12 +29,7 @@ pub extern "C" fn btpu_record<'a>(
 }
 
 // Reads a recording: the sizes of its frames, and where their octets start.
-#[unsafe(no_mangle)]
-pub extern "C" fn btpu_recording_open(
-    recording: &[u8],
-    sizes: &mut [u16; 1024],
-    res: &mut [u64; 4],
-) -> u32
+pub fn btpu_recording_open(recording: &[u8], sizes: &mut [u16; 1024], res: &mut [u64; 4]) -> u32
     ensures { record { status = result; sizes = sizes.new; result = res.new }
         ≡ Spec.opened recording.now sizes.old res.old }
 {
@@ -56,8 +50,7 @@ pub extern "C" fn btpu_recording_open(
 }
 
 // Plays a recording, up to so many messages.
-#[unsafe(no_mangle)]
-pub extern "C" fn btpu_play(
+pub fn btpu_play(
     recording: &[u8],
     limit: u64,
     pool: &mut [u8],

@@ -22,23 +22,20 @@ fn begin(version: Version, state: &mut [u8; 24], size: u64, first: u32) -> u32
     }
 }
 
-#[unsafe(no_mangle)]
-pub extern "C" fn btpu_sender_start(state: &mut [u8; 24], size: u64, first: u32) -> u32
+pub fn btpu_sender_start(state: &mut [u8; 24], size: u64, first: u32) -> u32
     ensures { ◌≡◌ {A = ℕ × List ℕ} (result, state.new) (Spec.started Draft02 state.old size first) }
 {
     begin(Version::Draft02, state, size, first)
 }
 
-#[unsafe(no_mangle)]
-pub extern "C" fn btpu_sender_start_00(state: &mut [u8; 24], size: u64, first: u32) -> u32
+pub fn btpu_sender_start_00(state: &mut [u8; 24], size: u64, first: u32) -> u32
     ensures { ◌≡◌ {A = ℕ × List ℕ} (result, state.new) (Spec.started Draft00 state.old size first) }
 {
     begin(Version::Draft00, state, size, first)
 }
 
 // Whether an image is a sound state.
-#[unsafe(no_mangle)]
-pub extern "C" fn btpu_sender_check(state: &[u8; 24]) -> u32
+pub fn btpu_sender_check(state: &[u8; 24]) -> u32
     ensures { result ≡ Spec.checked state.now }
 {
     if images::sending::is_image(state) {
@@ -50,13 +47,7 @@ pub extern "C" fn btpu_sender_check(state: &[u8; 24]) -> u32
 }
 
 // Placing a bundle, on an image.
-#[unsafe(no_mangle)]
-pub extern "C" fn btpu_place(
-    state: &mut [u8; 24],
-    bundle: &[u8],
-    frame: &mut [u8],
-    res: &mut [u64; 4],
-) -> u32
+pub fn btpu_place(state: &mut [u8; 24], bundle: &[u8], frame: &mut [u8], res: &mut [u64; 4]) -> u32
     ensures { record { status = result; image = state.new; frame = frame.new; result = res.new }
         ≡ Spec.placed_by state.old bundle.now frame.old res.old }
 {
@@ -69,8 +60,7 @@ pub extern "C" fn btpu_place(
 }
 
 // Cancelling the transfer begun, on an image.
-#[unsafe(no_mangle)]
-pub extern "C" fn btpu_cancel(state: &mut [u8; 24], frame: &mut [u8], res: &mut [u64; 4]) -> u32
+pub fn btpu_cancel(state: &mut [u8; 24], frame: &mut [u8], res: &mut [u64; 4]) -> u32
     ensures { record { status = result; image = state.new; frame = frame.new; result = res.new }
         ≡ Spec.cancelled_by state.old frame.old res.old }
 {
@@ -83,8 +73,7 @@ pub extern "C" fn btpu_cancel(state: &mut [u8; 24], frame: &mut [u8], res: &mut 
 }
 
 // Flushing, on an image.
-#[unsafe(no_mangle)]
-pub extern "C" fn btpu_flush(state: &mut [u8; 24], frame: &mut [u8], res: &mut [u64; 4]) -> u32
+pub fn btpu_flush(state: &mut [u8; 24], frame: &mut [u8], res: &mut [u64; 4]) -> u32
     ensures { record { status = result; image = state.new; frame = frame.new; result = res.new }
         ≡ Spec.flushed_by state.old frame.old res.old }
 {
