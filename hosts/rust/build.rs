@@ -1,5 +1,5 @@
 //! Links the static library: libbtpu.a in the directory that BTPU_LIB_DIR names, or libboard.a where the
-//! repository's export puts it.
+//! repository's `staticlib` puts it.
 
 use std::env;
 use std::path::{Path, PathBuf};
@@ -12,7 +12,7 @@ fn main() {
     println!("cargo:rerun-if-changed={}", library.display());
     if !library.exists() {
         eprintln!(
-            "{} is missing. In the root of the repository run: rt staticlib board\n\
+            "{} is missing. In the root of the repository run: ./staticlib\n\
              Or name the directory of an installed libbtpu.a in BTPU_LIB_DIR.",
             library.display()
         );

@@ -96,7 +96,7 @@
 //! # The library
 //!
 //! All calls go to a static library, libboard.a, through the C interface `include/btpu.h`; [`raw`] has its
-//! functions. The build takes it from `target/staticlib` of the repository, where `rt staticlib board`
+//! functions. The build takes it from `target/staticlib` of the repository, where `./staticlib`
 //! puts it, or libbtpu.a from the directory named by the environment variable `BTPU_LIB_DIR`. A call
 //! takes up to `BTPU_STACK` octets of the stack, [`Recording::play`] up to `BTPU_PLAY_STACK`.
 
