@@ -4,16 +4,23 @@
 # What it tests, for the whole module:
 #   1. only the instructions listed below, on integers and pointers alone; no pointer becomes a number or a number a pointer; no two
 #      pointers are compared; nothing outside the module is called but memmove, memset and trap
-#   2. every address is a base and a number of octets (getelementptr i8), so that no offset was left for the target to compute
+#   2. every address is a base and a number of octets (getelementptr i8), so that no offset was left for the target to compute, but in a
+#      pair of two numbers or of a pointer and an i64 behind it: such a pair is read, returned and taken apart, and lies alike whatever
+#      the width of a pointer
 #   3. every lasting piece of memory has its size as a number of octets (the 8 of a pointer too: build writes them out)
 #   4. no octet that holds a part of a pointer is read or written as a number, or the other way round; no two pointers overlap, and
 #      none is copied in part; no pointer is left in memory that the caller of an exported function lends
 #   5. a call passes what its callee takes; no operand is an expression
 #
+# Two forms are taken as what they are together. An exported function takes 4096 for a null that it is lent; whether it was null goes
+# nowhere else. A local that is filled with zeros as a whole before anything else is done with it holds null or zero, whatever the width;
+# that fill is no writing of numbers.
+#
 # For 4 each piece of memory is named by how the function reaches it: a local, a parameter, or a pointer that was read from memory. What is
 # known of an offset (pointer there, number there) goes along copies, in both directions, and along calls, from argument to parameter
 # and back, until nothing changes. A piece of memory whose own address is stored must hold no pointer, and neither must one that is
-# reached through an address that was read from memory: what is reached so is not followed. A global has the same name everywhere.
+# reached through an address that was read from memory, or that a function returned: what is reached so is not followed. A global has the
+# same name everywhere.
 
 function fail(what) { printf "%s: line %d: %s\n", (fn == "" ? "module" : fn), NR, what; bad = 1 }
 function trim(s) { gsub(/^[ \t]+|[ \t,]+$/, "", s); return s }
@@ -29,6 +36,27 @@ function add(kind, n, o, size, at,    k) {
     return 1
 }
 function width(t) { if (t == "ptr") return 8; if (t ~ /^i[0-9]+$/) { sub(/^i/, "", t); return t <= 8 ? 1 : t / 8 } return 0 }
+# "{ ptr, i64 }" becomes "{ptr;i64}", one word without commas
+function pack(s,    t) {
+    while (match(s, /\{ [a-z0-9]+, [a-z0-9]+ \}/)) {
+        t = substr(s, RSTART, RLENGTH)
+        gsub(/ /, "", t); sub(/,/, ";", t)
+        s = substr(s, 1, RSTART - 1) t substr(s, RSTART + RLENGTH)
+    }
+    return s
+}
+function is_pair(t) { return t == "{ptr;i64}" || t ~ /^\{i(8|16|32|64);i(8|16|32|64)\}$/ }
+# A pair that is read: its numbers are one number from its first octet to its last.
+function access_pair(t, r,    a, b) {
+    if (t == "{ptr;i64}") {
+        access("ptr", r)
+        add("i", base_of(r), off_of(r) + 8, 8, fn ":" NR)
+        return
+    }
+    a = t; sub(/^\{/, "", a); sub(/;.*/, "", a); a = width(a)
+    b = t; sub(/.*;/, "", b); sub(/\}$/, "", b); b = width(b)
+    add("i", base_of(r), off_of(r), a > b ? 2 * a : 2 * b, fn ":" NR)
+}
 function access(t, r) {
     if (width(t) == 0) { fail("reads or writes a value of type " t); return }
     add(t == "ptr" ? "p" : "i", base_of(r), off_of(r), width(t), fn ":" NR)
@@ -70,6 +98,7 @@ BEGIN {
 /^(define|[ \t].*call) .*@"[^"]*[(),]/ { fail("a name that can't be read here"); next }
 /^define / {
     fn = $0; sub(/^[^@]*@/, "", fn); sub(/\(.*/, "", fn); gsub(/"/, "", fn)
+    at_entry = 1; begun = labels = null_step = 0
     list = $0; sub(/^[^(]*\(/, "", list); sub(/\)[^)]*$/, "", list)
     n = args_of(list)
     for (i = 1; i <= n; i++) {
@@ -77,26 +106,51 @@ BEGIN {
         param[fn, i] = argname[i]
         if ($0 !~ /^define internal / && argtype[i] == "ptr") lent[fn SUBSEP argname[i]] = 1
     }
-    head = $0; sub(/@.*/, "", head)
-    if (head !~ /(void|i1|i8|i16|i32|i64) $/) fail("a result that is neither a number nor nothing")
+    head = $0; sub(/@.*/, "", head); head = pack(head)
     sub(/ $/, "", head); sub(/.* /, "", head)
+    if (head !~ /^(void|i1|i8|i16|i32|i64)$/ && !(is_pair(head) && $0 ~ /^define internal /)) fail("a result that is neither a number nor nothing")
+    result_of[fn] = head
     defined[fn] = head types
     next
 }
-/^[A-Za-z0-9_.$-]+:[ \t]*(;.*)?$/ { next }            # a label
+/^[A-Za-z0-9_.$-]+:[ \t]*(;.*)?$/ { if (begun || labels++) at_entry = 0; next }            # a label
 
 {
     line = $0
     sub(/, ![a-z].*$/, "", line)                    # what is only known, not done
     sub(/[ \t]*;.*$/, "", line)
-    line = trim(line)
+    line = pack(trim(line))
     result = ""
+    begun = 1
     if (line ~ /^%[A-Za-z0-9_.]+ = /) { result = line; sub(/ = .*/, "", result); sub(/^[^=]*= /, "", line) }
     op = line; sub(/ .*/, "", op)
+
+    # A null that an exported function is lent: four instructions, one behind another, of which only the last one's result is used.
+    if (null_step == 1 && line == "zext i1 " null_of[1] " to i64" || null_step == 2 && line == "mul i64 " null_of[2] ", 4096") { null_of[++null_step] = result; kept_in[node(result)] = 1; next }
+    if (null_step == 3 && line == "getelementptr i8, ptr " null_of[0] ", i64 " null_of[3]) { null_step = 0; up[node(result)] = base_of(null_of[0]); off[node(result)] = 0; next }
+    if (null_step) { fail("a pointer in icmp, and not to take another for null"); null_step = 0 }
+    if (at_entry && line ~ /^icmp eq ptr %[A-Za-z0-9_.]+, null$/) {
+        r = line; sub(/,.*/, "", r); sub(/.* /, "", r)
+        if (node(r) in lent) { null_step = 1; null_of[0] = r; null_of[1] = result; kept_in[node(result)] = 1; next }
+    }
+
+    # A local that is filled with zeros as a whole, and is mentioned for the first time.
+    if (at_entry && line ~ /^call void @llvm\.memset\.p0\.i64\(ptr %[A-Za-z0-9_.]+, i8 0, i64 [0-9]+, i1 false\)$/) {
+        r = line; sub(/^[^%]*/, "", r); t = r; sub(/,.*/, "", r); sub(/^.*, i64 /, "", t); sub(/,.*/, "", t)
+        if (node(r) in fresh && fresh[node(r)] == t + 0) { delete fresh[node(r)]; next }
+    }
+    rest = line
+    while (match(rest, /%[A-Za-z0-9_.$-]+/)) {
+        r = node(substr(rest, RSTART, RLENGTH)); rest = substr(rest, RSTART + RLENGTH)
+        delete fresh[r]
+        if (r in kept_in) fail("whether a pointer is null is used: " line)
+    }
+
     if (op != "getelementptr" && line ~ / \(/) { fail("a constant expression: " line); next }
     if (op == "alloca") {
         t = line; sub(/^alloca /, "", t); sub(/, align.*/, "", t)
         if (t !~ /^(ptr|i[0-9]+|\[[0-9]+ x i8\])$/) fail("a local of type " t)
+        if (t ~ /^\[/) { sub(/^\[/, "", t); sub(/ .*/, "", t); fresh[node(result)] = t + 0 }
     } else if (op == "getelementptr") {
         if (line !~ /^getelementptr (inbounds |nuw |nusw )*i8, ptr %[A-Za-z0-9_.]+, i64 [%A-Za-z0-9_.]+$/ && line !~ /^getelementptr (inbounds |nuw |nusw )*i8, ptr @[^ ,]+, i64 [%A-Za-z0-9_.]+$/) { fail("an address that is not a base and a number of octets: " line); next }
         if (node(result) in used) fail("an address that is used before its definition: " line)
@@ -109,17 +163,26 @@ BEGIN {
         }
     } else if (op == "load") {
         t = line; sub(/^load /, "", t); r = t; sub(/,.*/, "", t); sub(/^[^,]*, ptr /, "", r); sub(/,.*/, "", r)
+        if (is_pair(t)) { access_pair(t, r); pair[node(result)] = t; next }
         access(t, r)
         if (t == "ptr") loaded[node(result)] = fn ":" NR
+    } else if (op == "extractvalue") {
+        t = line; sub(/^extractvalue /, "", t); r = t; sub(/ .*/, "", t); sub(/^[^ ]* /, "", r); place = r; sub(/,.*/, "", r); sub(/^[^,]*, /, "", place)
+        if (!(node(r) in pair) || pair[node(r)] != t || place !~ /^[01]$/) { fail("a part of what is no pair: " line); next }
+        if (t == "{ptr;i64}" && place == 0) loaded[node(result)] = fn ":" NR
     } else if (op == "store") {
         t = line; sub(/^store /, "", t); v = t; sub(/ .*/, "", t); r = v; sub(/^[^ ]* /, "", v); sub(/,.*/, "", v); sub(/^[^,]*, ptr /, "", r); sub(/,.*/, "", r)
         access(t, r)
         if (t == "ptr") stored[base_of(v)] = fn ":" NR
     } else if (op == "call") {
-        if (line !~ /^call (void|i[0-9]+) @/) { fail("a call of what has no name: " line); next }
+        if (line !~ /^call (void|i[0-9]+|\{[a-z0-9;]+\}) @/) { fail("a call of what has no name: " line); next }
         callee = line; sub(/^[^@]*@/, "", callee); list = callee; sub(/\(.*/, "", callee); gsub(/"/, "", callee); sub(/^[^(]*\(/, "", list); sub(/\)[^)]*$/, "", list)
         n = args_of(list)
         returned = line; sub(/^call /, "", returned); sub(/ .*/, "", returned)
+        if (returned ~ /^\{/) {
+            if (!is_pair(returned)) { fail("a call that returns a value of type " returned); next }
+            pair[node(result)] = returned
+        }
         if (callee !~ /^llvm\./) { made++; made_as[made] = returned types; made_of[made] = callee; made_at[made] = fn ":" NR }
         if (callee ~ /^llvm\.memmove/) {
             if (argname[3] !~ /^[0-9]+$/) { fail("a copy whose length is not a constant"); next }
@@ -132,6 +195,10 @@ BEGIN {
         }
     } else if (op == "br" || op == "switch" || op == "unreachable" || op == "ret" || line ~ /^(i[0-9]+ -?[0-9]+, label|\])/) {
         if (op == "ret" && line ~ /^ret ptr/) fail("a result that is a pointer")
+        if (op == "ret" && line ~ /^ret \{/) {
+            t = line; sub(/^ret /, "", t); r = t; sub(/ .*/, "", t); sub(/^[^ ]* /, "", r)
+            if (t != result_of[fn] || !(node(r) in pair) || pair[node(r)] != t) fail("a result that is neither a number nor nothing, nor a pair that was read: " line)
+        }
     } else if (op in plain) {
         if (line ~ /[^A-Za-z0-9_]ptr[^A-Za-z0-9_]/) fail("a pointer in " op)
     } else fail("an instruction that is not known here: " line)
