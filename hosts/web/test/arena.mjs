@@ -53,7 +53,7 @@ export const RECEIVE = 4;
 /** The parameter of btpu_receive that is the place. */
 export const PLACE = 5;
 /** Parameters of btpu_receive_burst. */
-export const BURST = { frames: 4, frame: 7, place: 8, reasons: 14 };
+export const BURST = { frames: 4, octets: 6, frame: 7, place: 8, reasons: 14 };
 /** The octet of a receiver's image that is its window. */
 export const WINDOW = 1;
 /** Stands for a pointer that is NULL. */

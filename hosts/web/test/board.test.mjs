@@ -514,7 +514,7 @@ boardTest('a browser without storage is told, and the board goes on', { name: 'n
 });
 
 test('a module that traps costs one frame and no more', { timeout: 30000 }, async () => {
-  site.made.set('/btpu.wasm', Buffer.from(withStack(fs.readFileSync(path.join(web, 'btpu.wasm')), 20000)));
+  site.made.set('/btpu.wasm', Buffer.from(withStack(fs.readFileSync(path.join(web, 'btpu.wasm')), 8192)));
   const page = await browser.page(address('starved', 'now=07:10'), TALL);
   try {
     await ready(page);

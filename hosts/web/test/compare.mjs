@@ -25,6 +25,22 @@ export function withRoom(memory, octets) {
   }
 }
 
+/** The parameters of the functions that take frames: where they are lent, and how many octets. */
+const FRAMES = { btpu_receive: [3, 4], btpu_receive_burst: [5, BURST.octets], btpu_play: [0, 1] };
+/** The header of a message that fills the greatest frame with the longest chain of hints, and how many these are. */
+const LONGEST = [2, 128, 7, 252], HINTS = 1022;
+
+/** Whether that message lies anywhere in octets. */
+function holdsLongest(octets) {
+  for (let end = octets.indexOf(LONGEST[3]); end >= 0; end = octets.indexOf(LONGEST[3], end + 1)) {
+    if (end < 3 || !LONGEST.every((octet, k) => octets[end - 3 + k] === octet)) continue;
+    let hints = 0;
+    while (octets[end + 1 + 2 * hints] === (hints < HINTS - 1 ? 3 : 2) && octets[end + 2 + 2 * hints] === 0) hints++;
+    if (hints >= HINTS) return true;
+  }
+  return false;
+}
+
 /** Reads little-endian numbers one behind another. */
 class Reader {
   #view;
@@ -74,8 +90,9 @@ class Comparison {
   draft00 = { received: 0, begun: 0 };
   /** By window: transfers handed out by btpu_receive. */
   windows = { 4: 0, 8: 0, 16: 0 };
-  /** Octets of the stack used at most by the calls of each kind of section. */
+  /** Octets of the stack used at most by the calls of each kind of section, and how many of them were lent the longest chain of hints. */
   stack = [0, 0, 0];
+  longest = [0, 0, 0];
   #section = 0;
   #returned = 0;
 
@@ -106,8 +123,8 @@ class Comparison {
     if (this.difference === null) this.#compare(this.words.length);
     if (this.difference === null && !this.native.ended) this.difference = 'there are more answers than calls';
     if (this.difference === null) this.#outside();
-    const { difference, frames, calls, bundles, refusals, answers, passed, draft00, windows, stack } = this;
-    return { difference, frames, calls, bundles, refusals, answers, passed, draft00, windows, stack };
+    const { difference, frames, calls, bundles, refusals, answers, passed, draft00, windows, stack, longest } = this;
+    return { difference, frames, calls, bundles, refusals, answers, passed, draft00, windows, stack, longest };
   }
 
   #operation(operation) {
@@ -138,6 +155,10 @@ class Comparison {
     const [name, kinds] = FUNCTIONS[which];
     const words = numbers.map((n, k) => this.#word(kinds[k], n));
     if (name === 'btpu_receive') this.frames++;
+    if (name in FRAMES) {
+      const [at, length] = FRAMES[name].map((k) => Number(words[k]));
+      if (holdsLongest(this.memory.subarray(at, at + length))) this.longest[this.#section]++;
+    }
     for (;;) {
       try {
         this.#returned = this.exports[name](...words) >>> 0;

@@ -835,7 +835,7 @@ test('frames are passed on to boards of their own draft alone', async () => {
 });
 
 test('a trap is told, and Restart makes a new receiver', async () => {
-  site.made.set('/btpu.wasm', Buffer.from(withStack(fs.readFileSync(path.join(web, 'btpu.wasm')), 20000)));
+  site.made.set('/btpu.wasm', Buffer.from(withStack(fs.readFileSync(path.join(web, 'btpu.wasm')), 8192)));
   const starved = await browser.page(`${site.address}/desk.html`);
   try {
     await starved.until('document.body.dataset.ready');

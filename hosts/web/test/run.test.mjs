@@ -169,7 +169,7 @@ test('the pieces that came with an arrival are those that the window did not hol
 });
 
 test('a trap ends the run, and is said', async () => {
-  const starved = withStack(fs.readFileSync(path.join(web, 'btpu.wasm')), 20000);
+  const starved = withStack(fs.readFileSync(path.join(web, 'btpu.wasm')), 8192);
   const long = Uint8Array.from(message(2, 128, chain(1022)));
   const run = new Run(await Receiver.create(starved), overLink([octets('0200000141'), long, octets('0200000142')], GOOD));
   assert.equal(run.goTo(3), 1);

@@ -139,7 +139,7 @@ async function receiving(t, module, name) {
   });
 
   await t.test('a trap ends the use of a receiver, and a new one goes on from what was saved', async () => {
-    const starved = await load(withStack(file(name), 24000)), r = await Receiver.create(starved);
+    const starved = await load(withStack(file(name), 8192)), r = await Receiver.create(starved);
     r.receive(frame(piece(false, 5, 0, [1, 2, 3])));
     const saved = r.save(), long = frame(message(2, 0, [65]), message(2, 128, chain(1000)));
     assert.throws(() => r.receive(long), TrapError);
@@ -257,7 +257,7 @@ async function bursts(t, module, name) {
   });
 
   await t.test('frames in bursts: a trap hands over the bundles of the bursts before', async () => {
-    const r = await Receiver.create(await load(withStack(file(name), 32000)));
+    const r = await Receiver.create(await load(withStack(file(name), 8192)));
     const short = Array.from({ length: 70 }, (_, k) => frame(message(2, 0, [k]))), long = frame(message(2, 128, chain(1022)));
     const saved = r.save();
     assert.equal(r.receiveAll(short).bundles.length, 70);
