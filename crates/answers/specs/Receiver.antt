@@ -1,8 +1,8 @@
 -- The receiver's answer for hosts in other languages: a number, an array of four numbers, and the image of the state.
-use Rattle.std.specs.Prelude.{List, [], ◌∷◌, ℕ, ◌+◌, ◌*◌, ◌/◌, ◌%◌, set}
+use Rattle.std.specs.Prelude.{List, [], ◌∷◌, ℕ, ◌+◌, ◌*◌, ◌/◌, ◌%◌, set, Err, Ok, Result}
 use Rattle.rows.specs.declared.State.{State}
 use Rattle.receiver.specs.declared.Answer.{Answer}
-use Rattle.receiver.specs.declared.Answer.TheVariants.{Delivered, Finished, Refused}
+use Rattle.receiver.specs.declared.Answer.TheVariants.{Delivered, Finished}
 use Rattle.receiver.specs.declared.Refusal.{Refusal}
 use Rattle.messages.specs.Run.{origin_number}
 use Rattle.receiver.specs.Receive.{refusal_number, refusal_place, named}
@@ -20,25 +20,25 @@ abbrev pub place_in : ℕ → ℕ
 place_in returned = returned / 256
 
 -- 0, or the refusal
-abbrev pub status : Answer → ℕ
-status (Delivered length next origin) = 0
-status Finished = 0
-status (Refused refusal) = code refusal
+abbrev pub status : Result Answer Refusal → ℕ
+status (Ok (Delivered length next origin)) = 0
+status (Ok Finished) = 0
+status (Err refusal) = code refusal
 
 -- the place that a refusal names
-abbrev pub place : Answer → ℕ
-place (Delivered length next origin) = 0
-place Finished = 0
-place (Refused refusal) = named (refusal_place refusal)
+abbrev pub place : Result Answer Refusal → ℕ
+place (Ok (Delivered length next origin)) = 0
+place (Ok Finished) = 0
+place (Err refusal) = named (refusal_place refusal)
 
 -- 1, length, next place and number for a bundle; 0 for Finished. Other entries stay, and all if the call is refused.
-unfoldable pub report : Answer → List ℕ → List ℕ
-report (Delivered length next origin) result = 1 ∷ length ∷ next ∷ origin_number origin ∷ []
-report Finished result = set result 0 0
-report (Refused refusal) result = result
+unfoldable pub report : Result Answer Refusal → List ℕ → List ℕ
+report (Ok (Delivered length next origin)) result = 1 ∷ length ∷ next ∷ origin_number origin ∷ []
+report (Ok Finished) result = set result 0 0
+report (Err refusal) result = result
 
 -- a refused call leaves the image
-unfoldable pub kept : Answer → List ℕ → State → List ℕ
-kept (Delivered length next origin) image state = image_of state
-kept Finished image state = image_of state
-kept (Refused refusal) image state = image
+unfoldable pub kept : Result Answer Refusal → List ℕ → State → List ℕ
+kept (Ok (Delivered length next origin)) image state = image_of state
+kept (Ok Finished) image state = image_of state
+kept (Err refusal) image state = image

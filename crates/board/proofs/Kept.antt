@@ -7,15 +7,15 @@ use lib.ListN.{length, get_or, take, drop, set}
 use lib.Seq.{get_or-set_same}
 use Rattle.octets.specs.Octets.{Octets, put}
 use Rattle.octets.proofs.Put.{read_back}
-use Rattle.recording.specs.declared.Writing.{Writing}
-use Rattle.recording.specs.declared.Writing.TheVariants.{Written, Refused}
+use Rattle.recording.specs.declared.Refusal as Reading
+use Rattle.std.specs.Prelude.{Result, Ok, Err}
 use Rattle.recording.specs.Recording as Recording
 use Rattle.recording.specs.Recording.{Recording, Read, refused, good, read, blank, Wrote, write}
 use Rattle.recording.proofs.Refusals.{number-some}
 use Rattle.recording.proofs.Opens.{opens_good}
 use Rattle.recording.proofs.Trips.{round_trips}
-use Rattle.playback.specs.declared.Answer.{Answer}
-use Rattle.playback.specs.declared.Answer.TheVariants as Playing
+use Rattle.playback.specs.declared.Played as Playing
+use Rattle.playback.specs.declared.Refusal as Playback
 use Rattle.playback.specs.declared.Refusal.{Refusal}
 use Rattle.playback.specs.declared.Refusal.TheVariants.{Unreadable, PoolSize, ShortOutput}
 use Rattle.playback.specs.Call as Call
@@ -39,9 +39,9 @@ module _ (sizes joined output result : List ℕ) (four : 0 < length result) wher
   unfolding recorded written opened opened_as
   recorded-opens s sizes₀ result₀ = go w.answer refl s
     where
-      go : (a : Writing) → w.answer ≡ a → (written a w.output result).status ≡ 0 → opened (take (get_or (written a w.output result).result 0 0) (written a w.output result).output) sizes₀ result₀ ≡ opened_by sizes (length joined) result₀
-      go (Written n) q z = rw (get_or-set_same result 0 n 0 four, round_trips.written-reads (record { lengths = sizes; octets = joined }) output n q)
-      go (Refused f) q z = absurd (omega (arith, number-some f))
+      go : (a : Result ℕ Reading.Refusal) → w.answer ≡ a → (written a w.output result).status ≡ 0 → opened (take (get_or (written a w.output result).result 0 0) (written a w.output result).output) sizes₀ result₀ ≡ opened_by sizes (length joined) result₀
+      go (Ok n) q z = rw (get_or-set_same result 0 n 0 four, round_trips.written-reads (record { lengths = sizes; octets = joined }) output n q)
+      go (Err f) q z = absurd (omega (arith, number-some f))
 
 -- "and writing what was read, give the same back"
 module _ (xs : List ℕ) (low : Octets xs) (sizes result : List ℕ) where
@@ -58,7 +58,7 @@ module _ (xs : List ℕ) (low : Octets xs) (sizes result : List ℕ) where
           ≡ record { status = 0; output = put output 0 xs; result = set result₁ 0 (length xs) }
       go (refused f) q z = absurd (omega (arith, number-some f))
       go (good t) q z =
-          let O = opens_good xs (Recording.opened (good t)) _ _ (ap Recording.opened (sym q)) refl in
+          let O = opens_good xs (Recording.opened (good t)) _ (ap Recording.opened (sym q)) refl in
           let front : take (length t.lengths) (put blank 0 t.lengths) ≡ t.lengths = read_back blank (put blank 0 t.lengths) t.lengths refl in
           let same : O.recording ≡ t = cc in
           let behind : drop (8 + length t.lengths * 2) xs ≡ t.octets = O.octets ∙ ap (λ (r : Recording). r.octets) same in
@@ -74,7 +74,7 @@ played-within recording limit pool r result s = go (play recording limit pool r)
     number PoolSize z = absurd (omega arith)
     number ShortOutput z = absurd (omega arith)
 
-    go : (a : Answer) → (play recording limit pool r).answer ≡ a → (played_as a (play recording limit pool r).pool (play recording limit pool r).results result).status ≡ 0
+    go : (a : Result Playing.Played Playback.Refusal) → (play recording limit pool r).answer ≡ a → (played_as a (play recording limit pool r).pool (play recording limit pool r).results result).status ≡ 0
         → get_or (played_as a (play recording limit pool r).pool (play recording limit pool r).results result).result 0 0 ≤ limit
-    go (Playing.Played messages bundles octets frames) q z = within-limit recording limit pool r messages bundles octets frames q
-    go (Playing.Refused f) q z = number f z
+    go (Ok p) q z = within-limit recording limit pool r p q
+    go (Err f) q z = number f z

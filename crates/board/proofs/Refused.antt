@@ -20,13 +20,13 @@ use Rattle.burst.specs.declared.Refusal.{Refusal}
 use Rattle.burst.specs.Burst as Spec
 use Rattle.burst.specs.Burst.{Lists}
 use Rattle.burst.proofs.Refusals.{refused as burst-refused, treated as burst-treated}
-use Rattle.recording.specs.declared.Writing.{Writing}
-use Rattle.recording.specs.declared.Writing.TheVariants.{Written, Refused}
+use Rattle.recording.specs.declared.Refusal as Reading
+use Rattle.std.specs.Prelude.{Result, Ok, Err}
 use Rattle.recording.specs.Recording as Recording
 use Rattle.recording.specs.Recording.{Read, good, read, Wrote, write}
 use Rattle.recording.proofs.Refusals.{write-refused}
-use Rattle.playback.specs.declared.Answer.{Answer}
-use Rattle.playback.specs.declared.Answer.TheVariants as Playing
+use Rattle.playback.specs.declared.Played as Playing
+use Rattle.playback.specs.declared.Refusal as Playback
 use Rattle.playback.specs.Call as Call
 use Rattle.playback.specs.Call.{Results}
 use Rattle.playback.proofs.Refusals.{play-refused}
@@ -138,11 +138,11 @@ module _ (sizes octets output result : List ℕ) where
   abbrev w : Wrote
   w = write (record { lengths = sizes; octets = octets }) output
 
-  written-unchanged : (a : Writing) → w.answer ≡ a → let e : Recorded = written a w.output result in
+  written-unchanged : (a : Result ℕ Reading.Refusal) → w.answer ≡ a → let e : Recorded = written a w.output result in
       (e.status ≡ 0 → ⊥) → e ≡ record { status = e.status; output = output; result = result }
   unfolding written
-  written-unchanged (Written k) e n = absurd (n refl)
-  written-unchanged (Refused q) e n = rw (write-refused (record { lengths = sizes; octets = octets }) output q e)
+  written-unchanged (Ok k) e n = absurd (n refl)
+  written-unchanged (Err q) e n = rw (write-refused (record { lengths = sizes; octets = octets }) output q e)
 
 opened-unchanged : (r : Read) (sizes result : List ℕ) → let e : Opened = opened_as r sizes result in
     (e.status ≡ 0 → ⊥) → e ≡ record { status = e.status; sizes = sizes; result = result }
@@ -154,11 +154,11 @@ module _ (recording : List ℕ) (limit : ℕ) (pool : List ℕ) (r : Results) (r
   abbrev p : Call.Reply
   p = Call.play recording limit pool r
 
-  played-unchanged : (a : Answer) → p.answer ≡ a → let e : Played = played_as a p.pool p.results result in
+  played-unchanged : (a : Result Playing.Played Playback.Refusal) → p.answer ≡ a → let e : Played = played_as a p.pool p.results result in
       (e.status ≡ 0 → ⊥) → e ≡ record { status = e.status; pool = pool; results = r; result = result }
   unfolding played_as
-  played-unchanged (Playing.Played messages bundles octets frames) e n = absurd (n refl)
-  played-unchanged (Playing.Refused q) e n = rw (play-refused recording limit pool r q e)
+  played-unchanged (Ok counts) e n = absurd (n refl)
+  played-unchanged (Err q) e n = rw (play-refused recording limit pool r q e)
 
 pub refused-unchanged : RefusedUnchanged
 unfolding started placed_by cancelled_by flushed_by recorded opened played

@@ -6,10 +6,12 @@ use mathlib.Core.List.{List}
 use Prim.Native.Nat.{ℕ}
 use native.Mathlib.Omega.{arith}
 use lib.ListN.{get_or}
+use Rattle.std.proofs.Common.{Err, Ok, Result}
 use Rattle.wire.specs.declared.Version.TheVariants.{Draft02}
 use Rattle.wire.specs.Reserved.{SameButReserved}
 use Rattle.receiver.specs.declared.Answer.{Answer}
-use Rattle.receiver.specs.declared.Answer.TheVariants.{Delivered, Finished, Refused}
+use Rattle.receiver.specs.declared.Refusal.{Refusal}
+use Rattle.receiver.specs.declared.Answer.TheVariants.{Delivered, Finished}
 use Rattle.rows.specs.Message.{Board}
 use Rattle.receiver.specs.Receive.{Reply, receive}
 use Rattle.receiver.proofs.Refusals as Refusals
@@ -27,10 +29,10 @@ pub reserved_ignored : (image pool : List ℕ) {f g : List ℕ} → version_of (
 unfolding received state_of
 reserved_ignored image pool e r place output result = rw (Receiver.reserved_ignored (on image pool) e r place output)
 
-not_five : (a : Answer) → number_in (status a) ≡ 5 → ⊥
-not_five (Delivered length next origin) e = omega arith
-not_five Finished e = omega arith
-not_five (Refused q) e = Refusals.never_five q (sym (number-back q) ∙ e)
+not_five : (a : Result Answer Refusal) → number_in (status a) ≡ 5 → ⊥
+not_five (Ok (Delivered length next origin)) e = omega arith
+not_five (Ok Finished) e = omega arith
+not_five (Err q) e = Refusals.never_five q (sym (number-back q) ∙ e)
 
 pub never_five : (image pool frame : List ℕ) (place : ℕ) (output result : List ℕ) → number_in (received image pool frame place output result).status ≡ 5 → ⊥
 unfolding received exported

@@ -3,13 +3,12 @@ use mathlib.Core.Bool.{true, false}
 use mathlib.Core.List.{List}
 use mathlib.Core.Path.{◌≡◌}
 use Prim.Native.Nat.{ℕ}
+use Rattle.std.specs.Prelude.{Ok, Err}
 use Rattle.wire.specs.declared.Version.{Version}
 use Rattle.framing.specs.declared.Refusal.{Refusal}
 use Rattle.framing.specs.declared.Sent.{Sent}
 use Rattle.framing.specs.declared.State.{State}
 use Rattle.framing.specs.Answers.{reply, refusal_number, Outcome, outcome}
-use Rattle.sender.specs.declared.Started.{Started}
-use Rattle.sender.specs.declared.Started.TheVariants.{Made, Refused}
 use Rattle.sender.specs.Answers.{start_reply}
 use Rattle.sender.specs.Calls as Calls
 use Rattle.images.specs.Sender.{is_image, image_of}
@@ -28,12 +27,10 @@ pub image-answered : (image frame result : List ℕ) → is_image image ≡ true
 unfolding unless_image exported
 image-answered image frame result h o r frame' e n image' result' en ei er = rw (h, ← e, en, ei, er)
 
-pub sender_made : (v : Version) (image image' : List ℕ) (size first : ℕ) (s : Started) (m : State) → start_reply s ≡ Calls.start v size first → s ≡ Made m
-    → image' ≡ image_of m → ◌≡◌ {A = ℕ × List ℕ} (0, image') (started v image size first)
+pub sender_made : (v : Version) (image image' : List ℕ) (size first : ℕ) (m : State) → start_reply (Ok m) ≡ Calls.start v size first → image' ≡ image_of m → ◌≡◌ {A = ℕ × List ℕ} (0, image') (started v image size first)
 unfolding started started_with start_reply
-sender_made v image image' size first s m e es ei = rw (← e, es, ei)
+sender_made v image image' size first m e ei = rw (← e, ei)
 
-pub sender_denied : (v : Version) (image : List ℕ) (size first : ℕ) (s : Started) (r : Refusal) (n : ℕ) → start_reply s ≡ Calls.start v size first → s ≡ Refused r
-    → n ≡ refusal_number r → ◌≡◌ {A = ℕ × List ℕ} (n, image) (started v image size first)
+pub sender_denied : (v : Version) (image : List ℕ) (size first : ℕ) (r : Refusal) (n : ℕ) → start_reply (Err r) ≡ Calls.start v size first → n ≡ refusal_number r → ◌≡◌ {A = ℕ × List ℕ} (n, image) (started v image size first)
 unfolding started started_with start_reply
-sender_denied v image size first s r n e es en = rw (← e, es, en)
+sender_denied v image size first r n e en = rw (← e, en)

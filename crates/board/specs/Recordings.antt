@@ -1,11 +1,11 @@
 -- Recordings for hosts in other languages: written, read and played, each answer as a number and an array of four numbers.
-use Rattle.std.specs.Prelude.{List, [], ◌∷◌, ℕ, ◌+◌, ◌*◌, length, get_or, set}
+use Rattle.std.specs.Prelude.{List, [], ◌∷◌, ℕ, ◌+◌, ◌*◌, length, get_or, set, Result, Ok, Err}
 use Rattle.octets.specs.Octets.{put}
-use Rattle.recording.specs.declared.Writing.{Writing}
+use Rattle.recording.specs.declared.Refusal.{Refusal}
 use Rattle.recording.specs.Recording as Recording
 use Rattle.recording.specs.Recording.{Read, refused, good, blank, Wrote}
-use Rattle.playback.specs.declared.Answer.{Answer}
-use Rattle.playback.specs.declared.Answer.TheVariants as Playing
+use Rattle.playback.specs.declared.Played as Playing
+use Rattle.playback.specs.declared.Refusal as Playback
 use Rattle.playback.specs.Call as Call
 use Rattle.playback.specs.Call.{Results}
 
@@ -17,9 +17,9 @@ pub record Recorded : Type 0 where
   pub result : List ℕ
 
 -- the octets written; other entries stay
-unfoldable pub written : Writing → List ℕ → List ℕ → Recorded
-written (Writing.Written n) output result = record { status = 0; output = output; result = set result 0 n }
-written (Writing.Refused q) output result = record { status = Recording.refusal_number q; output = output; result = result }
+unfoldable pub written : Result ℕ Refusal → List ℕ → List ℕ → Recorded
+written (Ok n) output result = record { status = 0; output = output; result = set result 0 n }
+written (Err q) output result = record { status = Recording.refusal_number q; output = output; result = result }
 
 unfoldable pub recorded : List ℕ → List ℕ → List ℕ → List ℕ → Recorded
 recorded sizes octets output result =
@@ -55,9 +55,9 @@ pub record Played : Type 0 where
   pub result : List ℕ
 
 -- messages treated, bundles, their octets, frames refused
-unfoldable pub played_as : Answer → List ℕ → Results → List ℕ → Played
-played_as (Playing.Played messages bundles octets frames) pool r result = record { status = 0; pool = pool; results = r; result = messages ∷ bundles ∷ octets ∷ frames ∷ [] }
-played_as (Playing.Refused q) pool r result = record { status = Call.refusal_number q; pool = pool; results = r; result = result }
+unfoldable pub played_as : Result Playing.Played Playback.Refusal → List ℕ → Results → List ℕ → Played
+played_as (Ok p) pool r result = record { status = 0; pool = pool; results = r; result = p.messages ∷ p.bundles ∷ p.octets ∷ p.refused ∷ [] }
+played_as (Err q) pool r result = record { status = Call.refusal_number q; pool = pool; results = r; result = result }
 
 unfoldable pub played : List ℕ → ℕ → List ℕ → Results → List ℕ → Played
 played recording limit pool r result =

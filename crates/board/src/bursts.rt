@@ -3,12 +3,14 @@ ghost use Rattle.std.specs.Prelude.{◌≡◌};
 ghost use Rattle.burst.specs.Burst as Call;
 ghost use Rattle.board.specs.Burst as Spec;
 
+use images::receiving::IMAGE_SIZE;
+
 // Takes up to 64 frames in one call.
-pub fn btpu_receive_burst<'a>(
-    state: &mut [u8; 3144],
+pub fn btpu_receive_burst(
+    state: &mut [u8; IMAGE_SIZE],
     pool: &mut [u8],
-    sizes: &'a [u16],
-    joined: &'a [u8],
+    sizes: &[u16],
+    joined: &[u8],
     frame: u64,
     place: u64,
     output: &mut [u8],
@@ -29,24 +31,22 @@ pub fn btpu_receive_burst<'a>(
         (Call.lists output.old lengths.old numbers.old places.old reasons.old)
         res.old }
 {
-    if images::receiving::is_image(state) {
-        let s = images::receiving::state_of(state);
-        let r = burst::receive_burst(
-            s,
-            pool,
-            sizes,
-            joined,
-            frame as usize,
-            place as usize,
-            output,
-            lengths,
-            numbers,
-            places,
-            reasons,
-        );
-        let answer = r.answer;
-        let next = r.state;
-        return answers::bursts::finish(state, answer, next, res);
+    if !images::receiving::is_image(state) {
+        return 1;
     }
-    1
+    let s = images::receiving::state_of(state);
+    let r = burst::receive_burst(
+        s,
+        pool,
+        sizes,
+        joined,
+        frame as usize,
+        place as usize,
+        output,
+        lengths,
+        numbers,
+        places,
+        reasons,
+    );
+    answers::bursts::finish(state, r.answer, r.state, res)
 }

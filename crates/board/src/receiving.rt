@@ -4,55 +4,56 @@ ghost use Rattle.wire.specs.declared.Version.TheVariants.{Draft00, Draft02};
 ghost use Rattle.window.specs.Window.{plain_window};
 ghost use Rattle.board.specs.Receiver as Spec;
 
+use images::receiving::IMAGE_SIZE;
 use wire::Version;
 
 // Makes the image of a fresh receiver of a draft, with a window of 4, 8 or 16.
-fn begin(version: Version, state: &mut [u8; 3144], window: u32) -> u32
+fn begin(version: Version, state: &mut [u8; IMAGE_SIZE], window: u32) -> u32
     ensures { ◌≡◌ {A = ℕ × List ℕ} (result, state.new) (Spec.started version state.old window) }
 {
-    let s = receiver::start_as(version, window);
-    if s.refusal == 0 {
-        let fresh = s.state;
-        images::receiving::put_state(state, fresh);
-        return 0;
+    match receiver::start_as(version, window) {
+        Ok(fresh) => {
+            images::receiving::put_state(state, fresh);
+            0
+        }
+        Err(refusal) => u32::from(refusal),
     }
-    s.refusal
 }
 
 // A receiver of draft 02 with the plain window.
-pub fn btpu_receiver_start(state: &mut [u8; 3144]) -> u32
+pub fn btpu_receiver_start(state: &mut [u8; IMAGE_SIZE]) -> u32
     ensures { ◌≡◌ {A = ℕ × List ℕ} (result, state.new) (Spec.started Draft02 state.old plain_window) }
 {
     begin(Version::Draft02, state, window::PLAIN)
 }
 
-pub fn btpu_receiver_start_window(state: &mut [u8; 3144], window: u32) -> u32
+pub fn btpu_receiver_start_window(state: &mut [u8; IMAGE_SIZE], window: u32) -> u32
     ensures { ◌≡◌ {A = ℕ × List ℕ} (result, state.new) (Spec.started Draft02 state.old window) }
 {
     begin(Version::Draft02, state, window)
 }
 
-pub fn btpu_receiver_start_00(state: &mut [u8; 3144], window: u32) -> u32
+pub fn btpu_receiver_start_00(state: &mut [u8; IMAGE_SIZE], window: u32) -> u32
     ensures { ◌≡◌ {A = ℕ × List ℕ} (result, state.new) (Spec.started Draft00 state.old window) }
 {
     begin(Version::Draft00, state, window)
 }
 
 // Whether an image is a sound state.
-pub fn btpu_receiver_check(state: &[u8; 3144]) -> u32
+#[tactic(auto, unfolding(crate::specs::Receiver::checked))]
+pub fn btpu_receiver_check(state: &[u8; IMAGE_SIZE]) -> u32
     ensures { result ≡ Spec.checked state.now }
 {
-    if images::receiving::is_image(state) {
-        if rows::is_sound(images::receiving::state_of(state)) {
-            return 0;
-        }
+    if images::receiving::is_image(state) && rows::is_sound(&images::receiving::state_of(state)) {
+        0
+    } else {
+        1
     }
-    1
 }
 
 // The receiving call on an image.
 pub fn btpu_receive(
-    state: &mut [u8; 3144],
+    state: &mut [u8; IMAGE_SIZE],
     pool: &mut [u8],
     frame: &[u8],
     place: u64,
@@ -62,12 +63,11 @@ pub fn btpu_receive(
     ensures { record { status = result; image = state.new; pool = pool.new; output = output.new; result = res.new }
         ≡ Spec.received state.old pool.old frame.now place output.old res.old }
 {
-    if images::receiving::is_image(state) {
-        let s = images::receiving::state_of(state);
-        let r = receiver::receive(s, pool, frame, place as usize, output);
-        let answer = r.answer;
-        let next = r.state;
-        return answers::receiving::finish(state, answer, next, res);
+    // Read as an Option, the state would be copied twice more, and a call would take a third longer.
+    if !images::receiving::is_image(state) {
+        return 1;
     }
-    1
+    let s = images::receiving::state_of(state);
+    let r = receiver::receive(s, pool, frame, place as usize, output);
+    answers::receiving::finish(state, r.answer, r.state, res)
 }

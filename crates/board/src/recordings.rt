@@ -3,28 +3,17 @@ ghost use Rattle.std.specs.Prelude.{◌≡◌};
 ghost use Rattle.playback.specs.Call as Call;
 ghost use Rattle.board.specs.Recordings as Spec;
 
-use playback::Answer;
-use recording::{Opening, Writing};
-
 // Writes frames as a recording.
-pub fn btpu_record<'a>(
-    sizes: &'a [u16],
-    joined: &'a [u8],
-    output: &mut [u8],
-    res: &mut [u64; 4],
-) -> u32
+pub fn btpu_record(sizes: &[u16], joined: &[u8], output: &mut [u8], res: &mut [u64; 4]) -> u32
     ensures { record { status = result; output = output.new; result = res.new }
         ≡ Spec.recorded sizes.now joined.now output.old res.old }
 {
-    let answer = recording::write(sizes, joined, output);
-    match answer {
-        Writing::Written { octets } => {
+    match recording::write(sizes, joined, output) {
+        Ok(octets) => {
             res[0] = octets as u64;
-            return 0;
+            0
         }
-        Writing::Refused(refusal) => {
-            return recording::refusal_number(refusal);
-        }
+        Err(refusal) => u32::from(refusal),
     }
 }
 
@@ -33,19 +22,19 @@ pub fn btpu_recording_open(recording: &[u8], sizes: &mut [u16; 1024], res: &mut 
     ensures { record { status = result; sizes = sizes.new; result = res.new }
         ≡ Spec.opened recording.now sizes.old res.old }
 {
-    let opened = recording::open(recording);
-    let answer = opened.answer;
-    let lengths = opened.lengths;
-    match answer {
-        Opening::Good { frames, octets } => {
-            *sizes = lengths;
-            let start = 8 + frames * 2;
-            *res = [frames as u64, octets as u64, start as u64, res[3]];
-            return 0;
+    match recording::open(recording) {
+        Ok(opened) => {
+            sizes.copy_from_slice(&opened.lengths);
+            let start = recording::octets_start(opened.frames);
+            *res = [
+                opened.frames as u64,
+                opened.octets as u64,
+                start as u64,
+                res[3],
+            ];
+            0
         }
-        Opening::Unreadable(refusal) => {
-            return recording::refusal_number(refusal);
-        }
+        Err(refusal) => u32::from(refusal),
     }
 }
 
@@ -70,7 +59,7 @@ pub fn btpu_play(
         (Call.results output.old lengths.old places.old reasons.old)
         res.old }
 {
-    let answer = playback::play(
+    match playback::play(
         recording,
         limit as usize,
         pool,
@@ -78,24 +67,16 @@ pub fn btpu_play(
         lengths,
         places,
         reasons,
-    );
-    match answer {
-        Answer::Played {
-            messages,
-            bundles,
-            octets,
-            refused,
-        } => {
+    ) {
+        Ok(played) => {
             *res = [
-                messages as u64,
-                bundles as u64,
-                octets as u64,
-                refused as u64,
+                played.messages as u64,
+                played.bundles as u64,
+                played.octets as u64,
+                played.refused as u64,
             ];
-            return 0;
+            0
         }
-        Answer::Refused(refusal) => {
-            return playback::refusal_number(refusal);
-        }
+        Err(refusal) => u32::from(refusal),
     }
 }

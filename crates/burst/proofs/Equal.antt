@@ -10,6 +10,7 @@ use native.Mathlib.Nat.{sub-zero}
 use lib.ListN.{length, take, drop, length-drop, length-map}
 use lib.Dec.{eqb}
 use borrow.Author.Tests.{eqb-true, le-leb, not-false}
+use Rattle.std.proofs.Common.{Ok}
 use Rattle.octets.specs.Octets.{sum_of}
 use Rattle.wire.specs.Frame.{Sized}
 use Rattle.wire.specs.declared.Version.{Version}
@@ -26,9 +27,9 @@ use Rattle.frames.proofs.Adding.{poured_put, entries-put}
 use Rattle.frames.proofs.Costs.{Priced, priced_read}
 use Rattle.frames.proofs.Burst.{Carried, carried}
 use Rattle.frames.proofs.Calls.{few-out, Anyhow, go_on}
-use Rattle.burst.specs.declared.Answer.TheVariants.{Taken}
 use Rattle.burst.specs.declared.Refusal.{Refusal}
-use Rattle.burst.specs.Burst.{limits, frames_max, Lists, Reply, taken, misplaced_in, refusal, receive_burst}
+use Rattle.burst.specs.declared.Taken.{Taken}
+use Rattle.burst.specs.Burst.{took, limits, frames_max, Lists, Reply, taken, misplaced_in, refusal, receive_burst}
 use Rattle.burst.specs.Equal.{Sixteen, Long, Shaped, Equals, BurstEquals, Given, Continued, ended, onward, Gave, none as gave-none, then, AllSingles}
 use Rattle.burst.proofs.Starts.{none-behind}
 use Rattle.burst.proofs.Refusals.{went, refused, treated, Admits, admits}
@@ -100,7 +101,7 @@ module _ (D : Draft) (M : (xs : List ℕ) → Sized (length xs) (D.read xs)) (C 
     }
 
   module _ (b : Board) (sizes octets : List ℕ) (k place : ℕ) (l : Lists) (bundles used k' place' refused₁ : ℕ) (Z : Shaped D w b) (T : Sixteen sizes)
-      (e : (receive_burst D w b sizes octets k place l).answer ≡ Taken bundles used k' place' refused₁) where
+      (e : (receive_burst D w b sizes octets k place l).answer ≡ Ok (took bundles used k' place' refused₁)) where
     -- a burst that is taken is not refused
     admitting : Admits D w b sizes octets k place l × (receive_burst D w b sizes octets k place l ≡ taken (went D w b sizes octets k place l))
     admitting = go (refusal D w b sizes octets k place l.output) refl
@@ -117,11 +118,13 @@ module _ (D : Draft) (M : (xs : List ℕ) → Sized (length xs) (D.read xs)) (C 
     is_singles L =
         let E = equals b sizes octets k place l Z T admitting.0 L in
         let x = ap (λ (r : Reply). r.answer) (sym admitting.1) ∙ e in
-        let x₁ : (went D w b sizes octets k place l).run.progress.count ≡ bundles = cc in
-        let x₂ : (went D w b sizes octets k place l).run.progress.used ≡ used = cc in
-        let x₃ : (went D w b sizes octets k place l).frame ≡ k' = cc in
-        let x₄ : (went D w b sizes octets k place l).run.progress.next ≡ place' = cc in
-        let x₅ : (went D w b sizes octets k place l).refused ≡ refused₁ = cc in
+        let r : Reach = went D w b sizes octets k place l in
+        let t : took r.run.progress.count r.run.progress.used r.frame r.run.progress.next r.refused ≡ took bundles used k' place' refused₁ = cc in
+        let x₁ = ap (λ (y : Taken). y.bundles) t in
+        let x₂ = ap (λ (y : Taken). y.octets) t in
+        let x₃ = ap (λ (y : Taken). y.frame) t in
+        let x₄ = ap (λ (y : Taken). y.place) t in
+        let x₅ = ap (λ (y : Taken). y.refused) t in
         rw admitting.1 (rw (x₁, x₂, x₃, x₄, x₅) at E)
 
   pub burst-equals : BurstEquals D w

@@ -8,6 +8,7 @@ use native.Mathlib.Omega.{arith}
 use lib.ListN.{length, drop}
 use lib.Dec.{eqb, ltb}
 use borrow.Author.Tests.{eqb-true, ltb-false, not-false}
+use Rattle.std.proofs.Common.{Result, Err, Ok}
 use Rattle.octets.specs.Octets.{sum_of}
 use Rattle.octets.proofs.Flags.{neither, cond_elim}
 use Rattle.octets.proofs.Cases.{first}
@@ -16,23 +17,10 @@ use Rattle.rows.specs.State.{sound}
 use Rattle.rows.specs.Message.{Draft, Board}
 use Rattle.messages.specs.Run.{going, begun}
 use Rattle.frames.specs.Frames.{frames_of, Reach, set_out, through}
-use Rattle.burst.specs.declared.Admission.TheVariants.{Admitted, Denied}
-use Rattle.burst.specs.declared.Answer.{Answer}
-use Rattle.burst.specs.declared.Answer.TheVariants.{Taken, Refused}
+use Rattle.burst.specs.declared.Taken.{Taken}
 use Rattle.burst.specs.declared.Refusal.{Refusal}
 use Rattle.burst.specs.declared.Refusal.TheVariants.{Unsound, BufferSize, FrameCount, OctetCount, Misplaced}
 use Rattle.burst.specs.Burst.{refusal_number, frames_max, limits, Lists, taken, replied, misplaced_in, unfitting, refusal, receive_burst}
-use Rattle.burst.specs.Steps.{admission}
-
-pub denied : (o : Option Refusal) (q : Refusal) → admission o ≡ Denied q → o ≡ some q
-unfolding admission
-denied none q e = absurd (let z : ◌≡◌ {A = ℕ} 0 1 = cc in omega arith)
-denied (some r) q e = cc
-
-pub admitted : (o : Option Refusal) → admission o ≡ Admitted → o ≡ none
-unfolding admission
-admitted none e = refl
-admitted (some r) e = absurd (let z : ◌≡◌ {A = ℕ} 0 1 = cc in omega arith)
 
 -- a test that refuses was not met
 unmet : (b : Bool) (q : Refusal) (o : Option Refusal) → cond b (some q) o ≡ none → (b ≡ false) × (o ≡ none)
@@ -48,7 +36,7 @@ module _ (D : Draft) (w : ℕ) (b : Board) (sizes octets : List ℕ) (k place : 
   went =
       through D w limits (set_out (going b.state b.pool l.output l.lengths l.numbers (begun place)) l.places l.reasons k) (drop k (frames_of sizes octets))
 
-  pub refused : (q : Refusal) → why ≡ some q → receive_burst D w b sizes octets k place l ≡ record { answer = Refused q; board = b; lists = l }
+  pub refused : (q : Refusal) → why ≡ some q → receive_burst D w b sizes octets k place l ≡ record { answer = Err q; board = b; lists = l }
   unfolding receive_burst replied
   refused q e = rw e
 
@@ -98,9 +86,9 @@ module _ (D : Draft) (w : ℕ) (b : Board) (sizes octets : List ℕ) (k place : 
       ∷ []
 
 -- 0 for none
-abbrev pub burst_number : Answer → ℕ
-burst_number (Taken bundles octets frame place refused) = 0
-burst_number (Refused q) = refusal_number q
+abbrev pub burst_number : Result Taken Refusal → ℕ
+burst_number (Ok t) = 0
+burst_number (Err q) = refusal_number q
 
 table : (b₁ b₂ b₃ b₄ b₅ : Bool) (b : Board) (l : Lists) (r : Reach)
     → burst_number (replied (cond b₁ (some Unsound) (cond b₂ (some BufferSize) (cond b₃ (some FrameCount) (cond b₄ (some OctetCount) (cond b₅ (some Misplaced) none))))) b l (taken r)).answer

@@ -1,5 +1,5 @@
 -- The burst call (document 02, E3), over the draft and the window size w: "up to 64 frames together, as lengths and joined octets".
-use Rattle.std.specs.Prelude.{Bool, cond, not, ◌||◌, List, [], ◌∷◌, ℕ, ◌*◌, length, drop, eqb, ltb}
+use Rattle.std.specs.Prelude.{Bool, cond, not, ◌||◌, List, [], ◌∷◌, ℕ, ◌*◌, length, drop, eqb, ltb, Result, Ok, Err}
 use Rattle.std.proofs.Math.Option.{Option, none, some}
 use Rattle.octets.specs.Octets.{sum_of}
 use Rattle.pieces.specs.Pieces.{bundle_max}
@@ -9,8 +9,7 @@ use Rattle.messages.specs.declared.Limits.{Limits}
 use Rattle.messages.specs.Run.{going, begun}
 use Rattle.receiver.specs.Receive.{number_of, unfit}
 use Rattle.frames.specs.Frames.{frames_of, Reach, set_out, through}
-use Rattle.burst.specs.declared.Answer.{Answer}
-use Rattle.burst.specs.declared.Answer.TheVariants.{Taken, Refused}
+use Rattle.burst.specs.declared.Taken.{Taken}
 use Rattle.burst.specs.declared.Refusal.{Refusal}
 use Rattle.burst.specs.declared.Refusal.TheVariants.{Unsound, BufferSize, FrameCount, OctetCount, Misplaced}
 use Rattle.burst.specs.declared.Burst.{Burst}
@@ -41,9 +40,13 @@ pub record Lists : Type 0 where
 abbrev pub lists : List ℕ → List ℕ → List ℕ → List ℕ → List ℕ → Lists
 lists output lengths numbers places reasons = record { output = output; lengths = lengths; numbers = numbers; places = places; reasons = reasons }
 
+-- how many bundles are out and their octets, the frame and the place where the next call goes on, and how many frames were refused
+abbrev pub took : ℕ → ℕ → ℕ → ℕ → ℕ → Taken
+took bundles octets frame place refused = record { bundles = bundles; octets = octets; frame = frame; place = place; refused = refused }
+
 -- what a call answers, and the state, the pool and the lists that it leaves
 pub record Reply : Type 0 where
-  pub answer : Answer
+  pub answer : Result Taken Refusal
   pub board : Board
   pub lists : Lists
 
@@ -55,7 +58,7 @@ reply b pool l = record { answer = b.answer; board = record { state = b.state; p
 abbrev pub taken : Reach → Reply
 taken r =
     record {
-      answer = Taken r.run.progress.count r.run.progress.used r.frame r.run.progress.next r.refused;
+      answer = Ok (took r.run.progress.count r.run.progress.used r.frame r.run.progress.next r.refused);
       board = r.run.board;
       lists = lists r.run.output r.run.lengths r.run.numbers r.places r.reasons;
     }
@@ -63,7 +66,7 @@ taken r =
 -- a refused call changes nothing
 unfoldable pub replied : Option Refusal → Board → Lists → Reply → Reply
 replied none b l r = r
-replied (some q) b l r = record { answer = Refused q; board = b; lists = l }
+replied (some q) b l r = record { answer = Err q; board = b; lists = l }
 
 module _ (D : Draft) where
   -- "a starting place that a single call refuses with 9 (at the count, any but 0)"

@@ -1,5 +1,5 @@
 -- Document 02, E3: "State, pool and bundles equal those of single calls", over the draft and the window size w.
-use Rattle.std.specs.Prelude.{◌≡◌, List, [], ◌∷◌, ◌++◌, map, ℕ, ◌<◌, ◌^◌, length, drop, get_or}
+use Rattle.std.specs.Prelude.{◌≡◌, List, [], ◌∷◌, ◌++◌, map, ℕ, ◌<◌, ◌^◌, length, drop, get_or, Ok}
 use Rattle.octets.specs.Octets.{put}
 use Rattle.row.specs.declared.Phase.TheVariants.{Free}
 use Rattle.row.specs.Row.{empty_row}
@@ -9,8 +9,7 @@ use Rattle.rows.specs.Messages.{joined_octets}
 use Rattle.messages.specs.Run.{origin_number}
 use Rattle.frames.specs.Frames.{Note, frames_of}
 use Rattle.frames.specs.Singles.{room_in, always, Singles}
-use Rattle.burst.specs.declared.Answer.TheVariants.{Taken}
-use Rattle.burst.specs.Burst.{limits, frames_max, Lists, receive_burst}
+use Rattle.burst.specs.Burst.{took, limits, frames_max, Lists, receive_burst}
 
 -- lengths of 16 bits
 abbrev pub Sixteen : List ℕ → Type 0
@@ -71,7 +70,7 @@ module _ (D : Draft) (w : ℕ) where
   BurstEquals =
       (b : Board) (sizes octets : List ℕ) (k place : ℕ) (l : Lists) (bundles used k' place' refused : ℕ)
       → Shaped b → Long l → Sixteen sizes
-      → (receive_burst D w b sizes octets k place l).answer ≡ Taken bundles used k' place' refused
+      → (receive_burst D w b sizes octets k place l).answer ≡ Ok (took bundles used k' place' refused)
       → Equals b sizes octets k place l (receive_burst D w b sizes octets k place l).board (receive_burst D w b sizes octets k place l).lists bundles used k' place' refused
 
   -- ---- bursts continued
@@ -80,7 +79,7 @@ module _ (D : Draft) (w : ℕ) where
   pub data Continued (sizes octets : List ℕ) : (b : Board) (k place : ℕ) (gs : List Given) (after : Board) → Type 0 where
     ended : {b : Board} → Continued sizes octets b (length sizes) 0 [] b
     onward : {b after : Board} {k place k' place' : ℕ} {gs : List Given} (l : Lists) (bundles used refused : ℕ) → Long l
-        → (receive_burst D w b sizes octets k place l).answer ≡ Taken bundles used k' place' refused
+        → (receive_burst D w b sizes octets k place l).answer ≡ Ok (took bundles used k' place' refused)
         → Continued sizes octets (receive_burst D w b sizes octets k place l).board k' place' gs after
         → Continued sizes octets b k place (record { before = l; after = (receive_burst D w b sizes octets k place l).lists; bundles = bundles; refused = refused } ∷ gs) after
 

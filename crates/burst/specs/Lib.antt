@@ -1,3 +1,2 @@
 pub mod Burst
-pub mod Steps
 pub mod Equal

@@ -3,16 +3,16 @@
 
 ghost use Rattle.std.specs.Prelude.{◌≡◌, ◌≤◌, length, drop};
 ghost use Rattle.octets.specs.Octets.{sum_of};
+ghost use Rattle.octets.specs.Admission.{admission};
 ghost use Rattle.rows.specs.State.{window_of};
 ghost use Rattle.rows.specs.Message.{draft, draft_of};
 ghost use Rattle.frames.specs.Frames.{frames_of};
 ghost use Rattle.burst.specs.Burst as Spec;
-ghost use Rattle.burst.specs.Steps as Steps;
 
 use messages::Limits;
 use pieces::BUNDLE_MAX;
 use rows::State;
-use wire::Version;
+use wire::{Frames, Version};
 
 pub const FRAMES_MAX: usize = 64;
 
@@ -31,111 +31,99 @@ pub enum Refusal {
     Misplaced,
 }
 
-// Taken: how many bundles are out and how many octets they have, the frame and the place where the next call goes on, and how many frames
-// were refused.
+// How many bundles are out and how many octets they have, the frame and the place where the next call goes on, and how many frames were
+// refused.
 #[derive(Clone, Copy)]
-pub enum Answer {
-    Taken {
-        bundles: usize,
-        octets: usize,
-        frame: usize,
-        place: usize,
-        refused: usize,
-    },
-    Refused(Refusal),
+pub struct Taken {
+    pub bundles: usize,
+    pub octets: usize,
+    pub frame: usize,
+    pub place: usize,
+    pub refused: usize,
 }
 
 #[derive(Clone, Copy)]
 pub struct Burst {
-    pub answer: Answer,
+    pub answer: Result<Taken, Refusal>,
     pub state: State,
 }
 
-#[derive(Clone, Copy)]
-enum Admission {
-    Admitted,
-    Denied(Refusal),
-}
+// The number of a refusal.
+impl From<Refusal> for u32 {
+    ghost from_gives = { λ refusal n. n ≡ Spec.refusal_number refusal };
 
-pub fn refusal_number(refusal: Refusal) -> u32
-    ensures { result ≡ Spec.refusal_number refusal }
-{
-    match refusal {
-        Refusal::Unsound => 1,
-        Refusal::BufferSize => 2,
-        Refusal::FrameCount => 3,
-        Refusal::OctetCount => 19,
-        Refusal::Misplaced => 9,
+    fn from(refusal: Refusal) -> u32 {
+        match refusal {
+            Refusal::Unsound => 1,
+            Refusal::BufferSize => 2,
+            Refusal::FrameCount => 3,
+            Refusal::OctetCount => 19,
+            Refusal::Misplaced => 9,
+        }
     }
 }
 
 // Whether a burst can't start at a place of a frame that there is, or behind all frames.
-fn misplaced(version: Version, sizes: &[u16], joined: &[u8], frame: usize, place: usize) -> bool
-    requires { (length sizes.now ≤ Spec.frames_max) × (length joined.now ≡ sum_of sizes.now) × (frame ≤ length sizes.now) }
-    ensures { result ≡ Spec.misplaced_in (draft version) (drop frame (frames_of sizes.now joined.now)) place }
+fn misplaced(version: Version, frames: Frames, frame: usize, place: usize) -> bool
+    requires { (length frames.sizes.now ≤ Spec.frames_max) × (length frames.octets.now ≡ sum_of frames.sizes.now) × (frame ≤ length frames.sizes.now) }
+    ensures { result ≡ Spec.misplaced_in (draft version) (drop frame (frames_of frames.entry.sizes.now frames.entry.octets.now)) place }
 {
-    if frame == sizes.len() {
+    if frame == frames.sizes.len() {
         return place != 0;
     }
-    let start = octets::sum_of(sizes, frame);
-    let end = start + sizes[frame] as usize;
-    frames::reason_of(version, &joined[start..end], place) == 9
+    let start = octets::sum_of(&frames.sizes[..frame]);
+    let end = start + frames.sizes[frame] as usize;
+    match receiver::admit_frame(version, &frames.octets[start..end], place) {
+        Ok(()) => false,
+        Err(refusal) => u32::from(refusal) == 9,
+    }
 }
 
 // Refusals 3, 19 and 9.
-fn admit_frames(
-    version: Version,
-    sizes: &[u16],
-    joined: &[u8],
-    frame: usize,
-    place: usize,
-) -> Admission
-    ensures { result ≡ Steps.admission (Spec.unfitting (draft version) sizes.now joined.now frame place) }
+#[tactic(auto, unfolding(octets::specs::Admission::admission, crate::specs::Burst::unfitting))]
+fn admit_frames(version: Version, frames: Frames, frame: usize, place: usize) -> Result<(), Refusal>
+    ensures { result ≡ admission (Spec.unfitting (draft version) frames.entry.sizes.now frames.entry.octets.now frame place) }
 {
-    if FRAMES_MAX < sizes.len() {
-        return Admission::Denied(Refusal::FrameCount);
+    if FRAMES_MAX < frames.sizes.len() {
+        return Err(Refusal::FrameCount);
     }
-    if joined.len() != octets::sum_of(sizes, sizes.len()) {
-        return Admission::Denied(Refusal::OctetCount);
+    if frames.octets.len() != octets::sum_of(frames.sizes) {
+        return Err(Refusal::OctetCount);
     }
-    if sizes.len() < frame {
-        return Admission::Denied(Refusal::Misplaced);
+    if frames.sizes.len() < frame || misplaced(version, frames, frame, place) {
+        return Err(Refusal::Misplaced);
     }
-    if misplaced(version, sizes, joined, frame, place) {
-        return Admission::Denied(Refusal::Misplaced);
-    }
-    Admission::Admitted
+    Ok(())
 }
 
 // The first refusal that applies.
+#[tactic(auto, unfolding(octets::specs::Admission::admission, crate::specs::Burst::refusal))]
 fn admit(
-    state: State,
+    state: &State,
     pool: &[u8],
-    sizes: &[u16],
-    joined: &[u8],
+    frames: Frames,
     frame: usize,
     place: usize,
     output: &[u8],
-) -> Admission
-    ensures { result ≡ Steps.admission (Spec.refusal (draft_of state) (window_of state) (record { state = state; pool = pool.now }) sizes.now joined.now frame place output.now) }
+) -> Result<(), Refusal>
+    ensures { result ≡ admission (Spec.refusal (draft_of state.now) (window_of state.now) (record { state = state.now; pool = pool.now }) frames.entry.sizes.now frames.entry.octets.now frame place output.now) }
 {
-    if rows::is_sound(state) {
-        let size = receiver::pool_size(state.settings.window);
-        if (pool.len() != size) | (output.len() < BUNDLE_MAX) {
-            return Admission::Denied(Refusal::BufferSize);
-        }
-        return admit_frames(rows::version_of(state), sizes, joined, frame, place);
+    if !rows::is_sound(state) {
+        return Err(Refusal::Unsound);
     }
-    Admission::Denied(Refusal::Unsound)
+    if pool.len() != receiver::pool_size(state.settings.window) || output.len() < BUNDLE_MAX {
+        return Err(Refusal::BufferSize);
+    }
+    admit_frames(state.settings.version, frames, frame, place)
 }
 
 // Takes frames, given by their lengths and their joined octets, from a frame and a place on, until all are taken, 256 bundles are out or
 // the output lacks room for one more.
-pub fn receive_burst<'a>(
+pub fn receive_burst(
     state: State,
     pool: &mut [u8],
-    sizes: &'a [u16],
-    joined: &'a [u8],
+    sizes: &[u16],
+    joined: &[u8],
     frame: usize,
     place: usize,
     output: &mut [u8],
@@ -148,10 +136,13 @@ pub fn receive_burst<'a>(
         ≡ Spec.receive_burst (draft_of state) (window_of state) (record { state = state; pool = pool.old }) sizes.now joined.now frame place
         (Spec.lists output.old lengths.old numbers.old places.old reasons.old) }
 {
-    let a = admit(state, &pool[..], sizes, joined, frame, place, &output[..]);
-    if let Admission::Denied(refusal) = a {
+    let frames = Frames {
+        sizes,
+        octets: joined,
+    };
+    if let Err(refusal) = admit(&state, pool, frames, frame, place, output) {
         return Burst {
-            answer: Answer::Refused(refusal),
+            answer: Err(refusal),
             state,
         };
     }
@@ -159,12 +150,14 @@ pub fn receive_burst<'a>(
         messages: MESSAGES_LIMIT,
         bundles: BUNDLES_MAX,
     };
-    let start = octets::sum_of(sizes, frame);
+    let start = octets::sum_of(&sizes[..frame]);
     let r = frames::run_frames(
         state,
         pool,
-        &sizes[frame..],
-        &joined[start..],
+        Frames {
+            sizes: &sizes[frame..],
+            octets: &joined[start..],
+        },
         frame as u32,
         messages::begun(place),
         output,
@@ -175,15 +168,14 @@ pub fn receive_burst<'a>(
         limits,
     );
     let p = r.progress;
-    let next = r.state;
     Burst {
-        answer: Answer::Taken {
+        answer: Ok(Taken {
             bundles: p.count,
             octets: p.used,
             frame: r.frame as usize,
             place: p.next,
             refused: r.refused,
-        },
-        state: next,
+        }),
+        state: r.state,
     }
 }

@@ -11,6 +11,7 @@ use lib.ListN.{length, get_or, length-set, length-replicate}
 use lib.Seq.{get_or-set_same, get_or-set_other}
 use lib.Dec.{ltb, leb}
 use borrow.Author.Tests.{ltb-true, ltb-false, leb-true, leb-false}
+use Rattle.std.proofs.Common.{Some}
 use Rattle.octets.proofs.Flags.{bool}
 use Rattle.wire.specs.declared.Version.{Version}
 use Rattle.wire.specs.Message.{Message}
@@ -26,7 +27,6 @@ use Rattle.reassembly.specs.Rules as Rules
 use Rattle.pieces.specs.Pieces.{bundle_max}
 use Rattle.row.specs.Row.{empty_row}
 use Rattle.reassembly.specs.Rules.{piece_step, cancel_step}
-use Rattle.rows.specs.declared.Origin.TheVariants.{Transfer}
 use Rattle.rows.specs.State.{row_max, fresh}
 use Rattle.rows.specs.Message.{Board, Handed, Outcome, cell_at, handed_of, moved, in_row, treat_transfer, transfer, step}
 use Rattle.rows.proofs.Rows.{length_freed, get_or_freed}
@@ -70,7 +70,7 @@ module _ (order : Order) (w : ℕ) (win : Window w) (T : Transfers) where
   abbrev bundle? : Bool → ℕ → List Delivery
   bundle? b k = cond b (bundle_at order T k ∷ []) []
 
-  handed_is : (k : ℕ) (b : Bool) → answers (handed_of (Transfer (number_at T k)) (bundle_if (T.pieces k) order b)) ≡ bundle? b k
+  handed_is : (k : ℕ) (b : Bool) → answers (handed_of (Some (number_at T k)) (bundle_if (T.pieces k) order b)) ≡ bundle? b k
   unfolding handed_of bundle_if bundle_at listed
   handed_is k true = refl
   handed_is k false = refl
@@ -93,7 +93,7 @@ module _ (order : Order) (w : ℕ) (win : Window w) (T : Transfers) where
 
     row_gives : answers (in_row w rule b (number_at T k)).handed ≡ bundle? (newly (a.tracks k) t) k
     unfolding in_row
-    row_gives = ap (λ o. answers (handed_of (Transfer (number_at T k)) o)) did.gives ∙ handed_is k (newly (a.tracks k) t)
+    row_gives = ap (λ o. answers (handed_of (Some (number_at T k)) o)) did.gives ∙ handed_is k (newly (a.tracks k) t)
 
     row_within : (j : ℕ) → j < a.bound → a.bound ≤ j + w → Stands after j (change a.tracks k t j)
     unfolding in_row

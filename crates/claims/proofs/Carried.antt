@@ -10,6 +10,7 @@ use native.Mathlib.Omega.{arith}
 use lib.ListN.{length, get_or, length-set, length-replicate}
 use lib.Seq.{get_or-set_same, get_or-set_other}
 use borrow.Author.Tests.{eq-eqb, ne_eqb, le-leb, lt-leb}
+use Rattle.std.proofs.Common.{Some}
 use Rattle.wire.specs.declared.Version.{Version}
 use Rattle.wire.specs.Message.{Message, skipped, bundle, cancel}
 use Rattle.writing.specs.Written.{piece}
@@ -24,7 +25,6 @@ use Rattle.reassembly.specs.Rules as Rules
 use Rattle.pieces.specs.Pieces.{bundle_max}
 use Rattle.row.specs.Row.{empty_row}
 use Rattle.reassembly.specs.Rules.{piece_step, cancel_step}
-use Rattle.rows.specs.declared.Origin.TheVariants.{Transfer}
 use Rattle.rows.specs.State.{row_max, fresh}
 use Rattle.rows.specs.Message.{Board, Handed, Outcome, cell_at, handed_of, moved, in_row, treat_transfer, transfer, step}
 use Rattle.rows.proofs.Rows.{length_freed, get_or_freed}
@@ -205,7 +205,7 @@ module _ {S : Type 0} (In : S → Row → List ℕ → Type 0) (order : Order) (
         rw (step-piece w order b marked t i x, in_window rule) record { tied = in-row s t G.behind G.present rule c.sized (some q) (λ qs e. let z : q ≡ qs = cc in rw z at c.row); hands = rw c.quiet }
 
     end_does : (marked : Bool) (i : ℕ) (x octets : List ℕ) → Ending In order marked i x ps octets
-        → Does (step w order b (piece marked t i x)) k (update σ t none) (record { origin = Transfer t; octets = octets } ∷ [])
+        → Does (step w order b (piece marked t i x)) k (update σ t none) (record { origin = Some t; octets = octets } ∷ [])
     unfolding in_row handed_of listed
     end_does marked i x octets h =
         let c = h (row_at b t) (cell_of b t) G.row (full s t) in

@@ -9,6 +9,7 @@ use Prim.Native.Nat.{ℕ, ◌+◌, ◌%◌, ◌^◌, ◌<◌}
 use lib.ListN.{length}
 use lib.Dec.{eqb}
 use borrow.Author.Tests.{eqb-true, eqb-false}
+use Rattle.std.proofs.Common.{None, Some}
 use Rattle.octets.proofs.Flags.{bool}
 use Rattle.wire.specs.Message.{Message, skipped, bundle, cancel}
 use Rattle.window.specs.Window.{distance}
@@ -20,7 +21,6 @@ use Rattle.row.specs.declared.Row.{Row}
 use Rattle.row.specs.declared.Phase.TheVariants.{Free}
 use Rattle.row.specs.Row.{empty_row}
 use Rattle.reassembly.specs.Rules.{Outcome, piece_step}
-use Rattle.rows.specs.declared.Origin.TheVariants.{Whole, Transfer}
 use Rattle.rows.specs.Message.{Handed}
 
 -- for each number that is begun, what is known of it
@@ -76,7 +76,7 @@ pub data Carries {S : Type 0} (In : S → Row → List ℕ → Type 0) (order : 
   pads : {k : ℕ} {σ : Begun S} {ms : List Message} {bs : List Handed} → Carries In order w first k σ ms bs → Carries In order w first k σ (ms ++ skipped ∷ []) bs
   -- a bundle message
   hands : {k : ℕ} {σ : Begun S} {ms : List Message} {bs : List Handed} (b : List ℕ) → Carries In order w first k σ ms bs
-      → Carries In order w first k σ (ms ++ bundle b ∷ []) (bs ++ record { origin = Whole; octets = b } ∷ [])
+      → Carries In order w first k σ (ms ++ bundle b ∷ []) (bs ++ record { origin = None; octets = b } ∷ [])
   -- a first piece, of the next number, while all that is begun is less than w behind it
   opens : {k : ℕ} {σ : Begun S} {ms : List Message} {bs : List Handed} (marked : Bool) (i : ℕ) (x : List ℕ) (q : S) → Opening In order marked i x q
       → ((t : ℕ) (p : S) → σ t ≡ some p → distance t k < w) → Carries In order w first k σ ms bs
@@ -88,7 +88,7 @@ pub data Carries {S : Type 0} (In : S → Row → List ℕ → Type 0) (order : 
   -- the last piece
   ends : {k : ℕ} {σ : Begun S} {ms : List Message} {bs : List Handed} (t : ℕ) (p : S) (marked : Bool) (i : ℕ) (x octets : List ℕ) → σ t ≡ some p
       → Ending In order marked i x p octets → Carries In order w first k σ ms bs
-      → Carries In order w first k (update σ t none) (ms ++ piece marked t i x ∷ []) (bs ++ record { origin = Transfer t; octets = octets } ∷ [])
+      → Carries In order w first k (update σ t none) (ms ++ piece marked t i x ∷ []) (bs ++ record { origin = Some t; octets = octets } ∷ [])
   -- a cancel
   stops : {k : ℕ} {σ : Begun S} {ms : List Message} {bs : List Handed} (t : ℕ) (p : S) → σ t ≡ some p → Carries In order w first k σ ms bs
       → Carries In order w first k (update σ t none) (ms ++ cancel t ∷ []) bs

@@ -1,5 +1,6 @@
 -- One record, computed: demand 3's premises are met with a gain, and the claim is false without two of them, and by the first board's window.
 -- The record's numbers run from 4,294,967,291 over 0 to 11.
+use Rattle.std.proofs.Common.{Some}
 use Rattle.wire.specs.declared.Version.TheVariants.{Draft02}
 use mathlib.Core.Path.{◌≡◌, refl, ap}
 use mathlib.Core.Bool.{cond}
@@ -22,7 +23,6 @@ use Rattle.row.specs.Row as Row
 use Rattle.reassembly.specs.Rules as Rules
 use Rattle.octets.specs.Octets.{sum_of}
 use Rattle.pieces.specs.Pieces.{bundle_max}
-use Rattle.rows.specs.declared.Origin.TheVariants.{Transfer}
 use Rattle.rows.specs.State as State
 use Rattle.rows.specs.State.{fresh}
 use Rattle.rows.specs.Message as Step
@@ -118,7 +118,7 @@ board : ℕ → Board
 board w = record { state = fresh Draft02 w; pool = replicate (w * bundle_max) 0 }
 
 bundle : Delivery
-bundle = delivery (Transfer 4294967291) (65 ∷ 66 ∷ [])
+bundle = delivery (Some 4294967291) (65 ∷ 66 ∷ [])
 
 abbrev took : List ℕ → List Delivery → Entry
 took f hs = record { frame = f; handed = hs }
@@ -133,10 +133,10 @@ abbrev stopped : List Entry
 stopped = took stop [] ∷ took front [] ∷ took back [] ∷ []
 
 abbrev late : List Entry
-late = took other (delivery (Transfer 11) (67 ∷ []) ∷ []) ∷ took front [] ∷ took back [] ∷ []
+late = took other (delivery (Some 11) (67 ∷ []) ∷ []) ∷ took front [] ∷ took back [] ∷ []
 
 narrow : List Entry
-narrow = took fifth (delivery (Transfer 4294967295) (67 ∷ []) ∷ []) ∷ took front [] ∷ took back [] ∷ []
+narrow = took fifth (delivery (Some 4294967295) (67 ∷ []) ∷ []) ∷ took front [] ∷ took back [] ∷ []
 
 computed : (entries_of (draft Draft02) 16 (board 16) (front ∷ []) ≡ short) × (entries_of (draft Draft02) 16 (board 16) (front ∷ back ∷ []) ≡ long)
     × (entries_of (draft Draft02) 16 (board 16) (stop ∷ front ∷ back ∷ []) ≡ stopped) × (entries_of (draft Draft02) 16 (board 16) (other ∷ front ∷ back ∷ []) ≡ late)
@@ -227,7 +227,7 @@ far : List ℕ
 far = 4 ∷ 0 ∷ 0 ∷ 9 ∷ 128 ∷ 0 ∷ 0 ∷ 5 ∷ 0 ∷ 0 ∷ 0 ∷ 0 ∷ 65 ∷ []
 
 abbrev number : ℕ → Delivery
-number t = delivery (Transfer t) (65 ∷ [])
+number t = delivery (Some t) (65 ∷ [])
 
 abbrev twice : List Entry
 twice = took near (number 5 ∷ []) ∷ took far (number 2147483653 ∷ []) ∷ took near (number 5 ∷ []) ∷ []

@@ -5,11 +5,11 @@ use mathlib.Core.Option.{none, some}
 use mathlib.Core.List.{List, [], ◌∷◌, ◌++◌}
 use Prim.Native.Nat.{ℕ, ◌+◌, ◌%◌, ◌^◌, ◌<◌}
 use native.Mathlib.Omega.{arith}
+use Rattle.std.proofs.Common.{None, Some}
 use Rattle.wire.specs.Message.{Message, skipped, bundle, cancel as cancelled}
 use Rattle.writing.specs.Written.{piece}
 use Rattle.pieces.specs.declared.Order.{Order}
 use Rattle.row.specs.declared.Row.{Row}
-use Rattle.rows.specs.declared.Origin.TheVariants.{Whole, Transfer}
 use Rattle.rows.specs.Message.{Handed}
 use Rattle.claims.proofs.Carries.{Begun, update-elim, update_same, Opening, Continuing, Ending, Carries, pads, hands, opens, continues, ends, stops}
 
@@ -42,7 +42,7 @@ module _ {S : Type 0} {In : S → Row → List ℕ → Type 0} {At : ℕ → ℕ
   padding-flow (going q k< t< c e o l) = going q k< t< (pads c) e o l
 
   pub bundle-flow : {begun : Bool} → begun ≡ false → Flow In At order w n k t p i a ms bs begun
-      → Flow In At order w n k t p i a (ms ++ bundle a ∷ []) (bs ++ cond (not begun) (record { origin = cond begun (Transfer t) Whole; octets = a } ∷ []) []) begun
+      → Flow In At order w n k t p i a (ms ++ bundle a ∷ []) (bs ++ cond (not begun) (record { origin = cond begun (Some t) None; octets = a } ∷ []) []) begun
   bundle-flow f (idle k< c z) = idle k< (hands a c) z
   bundle-flow f (going q k< t< c e o l) = absurd (false≢true (sym f))
 
@@ -54,7 +54,7 @@ module _ {S : Type 0} {In : S → Row → List ℕ → Type 0} {At : ℕ → ℕ
   -- next index is i'.
   module _ (marked : Bool) (j : ℕ) (x : List ℕ) where
     pub end-flow : {begun : Bool} → begun ≡ true → ((q : S) → At p i a q → Ending In order marked j x q a) → Flow In At order w n k t p i a ms bs begun
-        → Flow In At order w n (cond begun k ((k + 1) % 2 ^ 32)) 0 0 0 a (ms ++ piece marked (cond begun t k) j x ∷ []) (bs ++ record { origin = cond begun (Transfer t) Whole; octets = a } ∷ []) false
+        → Flow In At order w n (cond begun k ((k + 1) % 2 ^ 32)) 0 0 0 a (ms ++ piece marked (cond begun t k) j x ∷ []) (bs ++ record { origin = cond begun (Some t) None; octets = a } ∷ []) false
     end-flow f h (idle k< c z) = absurd (false≢true f)
     end-flow f h (going {σ = σ} q k< t< c e o l) = idle k< (ends t q marked j x a e (h q l) c) (update-elim (λ u v. v ≡ none) σ t none refl o)
 

@@ -10,7 +10,7 @@ use Rattle.wire.specs.Message.{Message, skipped, good}
 use Rattle.wire.specs.Layout.{read}
 use Rattle.wire.specs.Frame.{Item, row, prepend, items, follow, scan, scanned, messages, frame_max}
 use Rattle.writing.specs.Written.{written, padding}
-use Rattle.wire.proofs.Frames.{scan_step}
+use Rattle.wire.proofs.Scanning.{scan_step}
 use Rattle.wire.proofs.Spans.{sized}
 use Rattle.writing.proofs.Written.{Writable, read-written, read-padding, length-written, length-padding}
 use Rattle.rows.specs.Message.{draft}

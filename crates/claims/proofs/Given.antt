@@ -8,11 +8,11 @@ use Prim.Native.Nat.{ℕ, ◌+◌, ◌<◌}
 use native.Mathlib.Omega.{arith}
 use lib.ListN.{length}
 use lib.Dec.{leb}
+use Rattle.std.proofs.Common.{None, Some}
 use Rattle.octets.proofs.Flags.{bool}
 use Rattle.wire.specs.Message.{Message, bundle}
 use Rattle.pieces.specs.declared.Order.{Order}
 use Rattle.pieces.specs.Pieces.{has, has_all}
-use Rattle.rows.specs.declared.Origin.TheVariants.{Whole, Transfer}
 use Rattle.claims.specs.Record as Record
 use Rattle.claims.specs.Record.{Transfers, number_at, piece_at, Honest}
 use Rattle.claims.specs.Calls.{Delivery}
@@ -22,12 +22,12 @@ use Rattle.claims.proofs.Track.{Track, live, whole, stopped, settled, add, stop,
 use Rattle.claims.proofs.Window.{place_of, piece-event, same_place}
 
 -- one more answer, of a number that no earlier one has
-once_more : (hs : List Delivery) (h : Delivery) → NoTransferTwice hs → ((g : Delivery) (t : ℕ) → Memᴰ g hs → g.origin ≡ Transfer t → h.origin ≡ Transfer t → ⊥) → NoTransferTwice (hs ++ h ∷ [])
+once_more : (hs : List Delivery) (h : Delivery) → NoTransferTwice hs → ((g : Delivery) (t : ℕ) → Memᴰ g hs → g.origin ≡ Some t → h.origin ≡ Some t → ⊥) → NoTransferTwice (hs ++ h ∷ [])
 unfolding NoTransferTwice
 once_more [] h n other = ((λ g t m. absurd (Memᴰ.not-nil m)), tt)
 once_more (x ∷ hs) h n other = ((λ g t m. go g t (Memᴰ.append_cases hs m)), once_more hs h n.1 (λ g t m. other g t (Memᴰ.tail m)))
   where
-    go : (g : Delivery) (t : ℕ) → Memᴰ g hs ⊎ Memᴰ g (h ∷ []) → x.origin ≡ Transfer t → g.origin ≡ Transfer t → ⊥
+    go : (g : Delivery) (t : ℕ) → Memᴰ g hs ⊎ Memᴰ g (h ∷ []) → x.origin ≡ Some t → g.origin ≡ Some t → ⊥
     go g t (inl m) = n.0 g t m
     go g t (inr m) = rw (Memᴰ.eq_of_singleton m) (other x t (Memᴰ.head refl))
 
@@ -75,7 +75,7 @@ module _ (order : Order) (T : Transfers) (Q : Message → Type 0) where
   Backed k stopped hs = Unit {0}
 
   pub data Known (a : Course) (h : Delivery) : Type 0 where
-    plain : (c : List ℕ) → Q (bundle c) → h ≡ delivery Whole c → Known a h
+    plain : (c : List ℕ) → Q (bundle c) → h ≡ delivery None c → Known a h
     numbered : (k : ℕ) → k < T.count → h ≡ out k → a.tracks k ≡ whole → Known a h
 
   pub record Given (a : Course) (hs : List Delivery) : Type 0 where
@@ -132,10 +132,10 @@ module _ (order : Order) (T : Transfers) (Q : Message → Type 0) where
         known h (inl m) = still h (G.known h m)
         known h (inr m) = numbered k k< (Memᴰ.eq_of_singleton m) (change_same a.tracks k t ∙ (newly_whole (a.tracks k) t e).0)
 
-        other : (g : Delivery) (n : ℕ) → Known a g → g.origin ≡ Transfer n → (out k).origin ≡ Transfer n → ⊥
+        other : (g : Delivery) (n : ℕ) → Known a g → g.origin ≡ Some n → (out k).origin ≡ Some n → ⊥
         other g n (plain c q p) e₁ e₂ = let z : ◌≡◌ {A = ℕ} 0 1 = cc (ap (λ (x : Delivery). x.origin) p) in omega arith
         other g n (numbered j j< p w) e₁ e₂ =
-            let n≡ : Transfer (number_at T j) ≡ Transfer (number_at T k) = ap (λ (x : Delivery). x.origin) (sym p) ∙ e₁ ∙ sym e₂ in
+            let n≡ : Some (number_at T j) ≡ Some (number_at T k) = ap (λ (x : Delivery). x.origin) (sym p) ∙ e₁ ∙ sym e₂ in
             (newly_whole (a.tracks k) t e).1 (rw (same_place T j k j< k< (let same : number_at T j ≡ number_at T k = cc in same)) at w)
 
     given_touch : (w : ℕ) → Backed k t (hs ++ out_if (newly (a.tracks k) t) k) → Given (touch w a k t) (hs ++ out_if (leb a.bound (k + w) && newly (a.tracks k) t) k)
@@ -146,15 +146,15 @@ module _ (order : Order) (T : Transfers) (Q : Message → Type 0) where
         go (inl e) = rw e (given_touched (newly (a.tracks k) t) refl f)
         go (inr e) = rw (e, append-nil hs) G
 
-  given_plain : {a : Course} {hs : List Delivery} → Given a hs → (c : List ℕ) → Q (bundle c) → Given a (hs ++ delivery Whole c ∷ [])
+  given_plain : {a : Course} {hs : List Delivery} → Given a hs → (c : List ℕ) → Q (bundle c) → Given a (hs ++ delivery None c ∷ [])
   unfolding delivery
   given_plain {a} {hs} G c q = record {
-    backed = λ k. backed_more k (a.tracks k) hs (delivery Whole c ∷ []) (G.backed k);
+    backed = λ k. backed_more k (a.tracks k) hs (delivery None c ∷ []) (G.backed k);
     known = λ h m. known h (Memᴰ.append_cases hs m);
-    once = once_more hs (delivery Whole c) G.once (λ g t m e₁ e₂. let z : ◌≡◌ {A = ℕ} 0 1 = cc in omega arith);
+    once = once_more hs (delivery None c) G.once (λ g t m e₁ e₂. let z : ◌≡◌ {A = ℕ} 0 1 = cc in omega arith);
   }
     where
-      known : (h : Delivery) → Memᴰ h hs ⊎ Memᴰ h (delivery Whole c ∷ []) → Known a h
+      known : (h : Delivery) → Memᴰ h hs ⊎ Memᴰ h (delivery None c ∷ []) → Known a h
       known h (inl m) = G.known h m
       known h (inr m) = plain c q (Memᴰ.eq_of_singleton m)
 

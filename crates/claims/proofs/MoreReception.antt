@@ -4,11 +4,11 @@ use mathlib.Core.List.Memᴰ
 use mathlib.Core.List.{List, [], ◌∷◌, ◌++◌, append-nil, append_assoc, Memᴰ}
 use Prim.Native.Nat.{ℕ, ◌-◌}
 use native.Mathlib.Omega.{arith}
+use Rattle.std.proofs.Common.{Some}
 use Rattle.wire.specs.Message.{Message}
 use Rattle.wire.specs.Frame.{messages}
 use Rattle.wire.proofs.Spans.{sized}
 use Rattle.window.specs.Window.{Window}
-use Rattle.rows.specs.declared.Origin.TheVariants.{Transfer}
 use Rattle.wire.specs.declared.Version.{Version}
 use Rattle.rows.specs.Message.{Draft, draft, Board}
 use Rattle.claims.specs.Record.{Transfers, Record}
@@ -93,7 +93,7 @@ module _ {v : Version} (R : Record v) where
     Near a ms = AllNear D.order T (InRecord R) w₁ w₂ a ms
 
     -- everything that the first has handed out under a number, the second has handed out too
-    handed_too : {a₁ a₂ : Course} {x y : List Delivery} → Gives a₁ x → Gives a₂ y → Leads a₁ a₂ → (h : Delivery) (t : ℕ) → h.origin ≡ Transfer t → Memᴰ h x → Memᴰ h y
+    handed_too : {a₁ a₂ : Course} {x y : List Delivery} → Gives a₁ x → Gives a₂ y → Leads a₁ a₂ → (h : Delivery) (t : ℕ) → h.origin ≡ Some t → Memᴰ h x → Memᴰ h y
     unfolding Backed delivery
     handed_too {a₁} {y = y} G₁ G₂ A h t e m = go (G₁.known h m)
       where

@@ -1,4 +1,5 @@
 -- The frames of a sender that is used as document 01 says are well formed, and their messages carry the bundles placed to their end.
+use Rattle.std.proofs.Common.{None, Some}
 use Rattle.wire.specs.declared.Version.{Version}
 use mathlib.Core.Path.{◌≡◌, refl, sym, ap, ◌∙◌}
 use mathlib.Core.Bool.{Bool, true, false, cond, not, ◌&&◌}
@@ -32,7 +33,6 @@ use Rattle.sender.proofs.Facts.{Ranges, in-range, in-transfer, at_rest, same_len
 use Rattle.sender.proofs.Ways.{Passed, unless-ways}
 use Rattle.sender.proofs.Kept.{start-sound, place-sound, cancel-sound, flush-sound}
 use Rattle.sender.proofs.Refusals.{place-refused, cancel-refused, flush-refused}
-use Rattle.rows.specs.declared.Origin.TheVariants.{Whole, Transfer}
 use Rattle.rows.specs.Message.{order_of, draft, Handed}
 use Rattle.claims.specs.Record.{WellFormed}
 use Rattle.claims.specs.Use.{is_ready, is_placed, taken, finished, Call, to_place, to_cancel, to_flush, outcome_of, Used, started, placing as place-used, cancelling, flushing, refusing}
@@ -136,10 +136,10 @@ module _ {v : Version} {w n : ℕ} {s : State} {d b : List ℕ} {fs : List (List
 -- ---- the calls
 
 finished-added : (s : State) (a : List ℕ) (t : State) (m : Message) (d : List ℕ)
-    → finished s a (added t m d) ≡ cond (not t.begun) (record { origin = cond s.begun (Transfer s.number) Whole; octets = a } ∷ []) []
+    → finished s a (added t m d) ≡ cond (not t.begun) (record { origin = cond s.begun (Some s.number) None; octets = a } ∷ []) []
 unfolding added advanced finished is_placed
 finished-added s a t m d =
-    let hs : List Handed = record { origin = cond s.begun (Transfer s.number) Whole; octets = a } ∷ [] in
+    let hs : List Handed = record { origin = cond s.begun (Some s.number) None; octets = a } ∷ [] in
     cond_elim (λ (r : Reply). cond (is_placed r && not t.begun) hs [] ≡ cond (not t.begun) hs []) (eqb (t.fill + length (written t.version m)) t.size) (λ _. refl) (λ _. refl)
 
 module _ (v : Version) (w n : ℕ) (s : State) (d : List ℕ) (fs : List (List ℕ)) (bs : List Handed) (ok : sound s ≡ true) where

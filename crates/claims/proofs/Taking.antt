@@ -6,6 +6,7 @@ use mathlib.Core.List.{List, [], ◌∷◌, map, Memᴰ}
 use Prim.Native.Nat.{ℕ, zero, suc, ◌≤◌, ◌<◌}
 use native.Mathlib.Omega.{arith}
 use lib.ListN.{length, take, replicate, length-append, length-replicate}
+use Rattle.std.proofs.Common.{Err, Ok}
 use Rattle.wire.specs.declared.Version.{Version}
 use Rattle.wire.specs.Message.{Message}
 use Rattle.wire.specs.Frame.{Item, Sized, items, messages}
@@ -13,9 +14,9 @@ use Rattle.wire.proofs.Spans.{sized}
 use Rattle.wire.proofs.Order.{good_place}
 use Rattle.window.specs.Window.{Window}
 use Rattle.pieces.specs.Pieces.{bundle_max}
-use Rattle.rows.specs.declared.Origin.{Origin}
+use Rattle.rows.specs.Origin.{Origin}
 use Rattle.receiver.specs.declared.Refusal.{Refusal}
-use Rattle.receiver.specs.declared.Answer.TheVariants.{Delivered, Finished, Refused}
+use Rattle.receiver.specs.declared.Answer.TheVariants.{Delivered, Finished}
 use Rattle.rows.specs.State.{window_of, fresh}
 use Rattle.rows.proofs.Keeping.{settings_of}
 use Rattle.rows.specs.Message.{Draft, draft, draft_of, Board, messages_from}
@@ -46,11 +47,11 @@ module _ (D : Draft) (M : Measured D) (w : ℕ) (f : List ℕ) (F : WellFormed D
     abbrev reply : Reply
     reply = receive_as D w b f at output
 
-    treats : ((r : Refusal) → reply.answer ≡ Refused r → ⊥) → reply ≡ treat D w b rest output
+    treats : ((r : Refusal) → reply.answer ≡ Err r → ⊥) → reply ≡ treat D w b rest output
     unfolding messages_from items
     treats never = not-refused D w b f at output never ∙ rw (F.whole, A.here)
 
-    finished-run : reply.answer ≡ Finished → (answers_by b (messages_in rest) ≡ []) × (board_after w D.order b (messages_in rest) ≡ reply.board)
+    finished-run : reply.answer ≡ Ok Finished → (answers_by b (messages_in rest) ≡ []) × (board_after w D.order b (messages_in rest) ≡ reply.board)
     finished-run e = go (treating D w b rest output)
       where
         r : reply ≡ treat D w b rest output
@@ -67,7 +68,7 @@ module _ (D : Draft) (M : Measured D) (w : ℕ) (f : List ℕ) (F : WellFormed D
       hands : answers_by b (messages_in rest) ≡ h ∷ answers_by reply.board (messages_in later)
       leaves : board_after w D.order b (messages_in rest) ≡ board_after w D.order reply.board (messages_in later)
 
-    delivered-run : (size next : ℕ) (origin : Origin) → reply.answer ≡ Delivered size next origin → Resumed next (record { origin = origin; size = size; octets = take size reply.output })
+    delivered-run : (size next : ℕ) (origin : Origin) → reply.answer ≡ Ok (Delivered size next origin) → Resumed next (record { origin = origin; size = size; octets = take size reply.output })
     unfolding delivery
     delivered-run size next origin e = go (treating D w b rest output)
       where
@@ -77,7 +78,7 @@ module _ (D : Draft) (M : Measured D) (w : ℕ) (f : List ℕ) (F : WellFormed D
         go : Treated D w b rest output → Resumed next (record { origin = origin; size = size; octets = take size reply.output })
         go (through a h q) = let z : ◌≡◌ {A = ℕ} 0 1 = cc (ap (λ (x : Reply). x.answer) r) in absurd (omega arith)
         go (stops pre i suf h q a t hs v) =
-            let same : Delivered size next origin ≡ Delivered (length h.octets) i.next h.origin = sym e ∙ ap (λ (x : Reply). x.answer) r ∙ a in
+            let same : Ok (Delivered size next origin) ≡ Ok (Delivered (length h.octets) i.next h.origin) = sym e ∙ ap (λ (x : Reply). x.answer) r ∙ a in
             let next≡ : next ≡ i.next = cc in
             let size≡ : size ≡ length h.octets = cc in
             let origin≡ : origin ≡ h.origin = cc in

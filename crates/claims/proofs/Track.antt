@@ -8,12 +8,12 @@ use Prim.Native.Nat.{ℕ, suc, ◌+◌, max}
 use lib.ListN.{length}
 use lib.Dec.{leb, eqb}
 use borrow.Author.Tests.{eqb-true, eqb-false, eq-eqb}
+use Rattle.std.proofs.Common.{None, Some}
 use Rattle.octets.proofs.Flags.{bool}
 use Rattle.wire.specs.Message.{Message, skipped, bundle, segment, last, cancel}
 use Rattle.window.specs.Window.{distance}
 use Rattle.pieces.specs.declared.Order.{Order}
 use Rattle.pieces.specs.Pieces.{has, has_all}
-use Rattle.rows.specs.declared.Origin.TheVariants.{Whole, Transfer}
 use Rattle.claims.specs.Record.{Transfers, number_at}
 use Rattle.claims.specs.Calls.{Delivery}
 use Rattle.claims.specs.Demand3.{join, delivery}
@@ -101,7 +101,7 @@ event first (last t i d) = comes (distance first t) i
 event first (cancel t) = stops (distance first t)
 
 unfoldable pub bundle_at : Order → Transfers → ℕ → Delivery
-bundle_at order T k = delivery (Transfer (number_at T k)) (join order (T.pieces k))
+bundle_at order T k = delivery (Some (number_at T k)) (join order (T.pieces k))
 
 -- a board of window w over a record's transfers
 module _ (order : Order) (w : ℕ) (T : Transfers) where
@@ -116,7 +116,7 @@ module _ (order : Order) (w : ℕ) (T : Transfers) where
 
   unfoldable pub hands_out : Course → Event → List Delivery
   hands_out a quiet = []
-  hands_out a (hands c) = delivery Whole c ∷ []
+  hands_out a (hands c) = delivery None c ∷ []
   hands_out a (comes k i) = cond (leb a.bound (k + w) && newly (a.tracks k) (grown a k i)) (bundle_at order T k ∷ []) []
   hands_out a (stops k) = []
 

@@ -5,6 +5,7 @@ use mathlib.Core.List.{List, [], ◌∷◌, ◌++◌, map}
 use Prim.Native.Nat.{ℕ}
 use native.Mathlib.Omega.{arith}
 use lib.ListN.{replicate}
+use Rattle.std.proofs.Common.{None, Some}
 use Rattle.octets.specs.Octets.{be32, put}
 use Rattle.wire.specs.declared.Version.TheVariants.{Draft00, Draft02}
 use Rattle.wire.specs.Message.{bundle, segment, last, cancel, kind, content_length}
@@ -13,7 +14,6 @@ use Rattle.framing.specs.Placing as Framing
 use Rattle.sender.specs.Answers.{unless, is_refusal}
 use Rattle.sender.specs.Sound as Sound
 use Rattle.sender.specs.Calls as Sender
-use Rattle.rows.specs.declared.Origin.TheVariants.{Whole, Transfer}
 use Rattle.window.specs.Window.{Window}
 use Rattle.rows.specs.Message.{Board, Handed}
 use Rattle.receiver.specs.Receive.{receive}
@@ -37,7 +37,7 @@ frames =
     ∷ []
 
 unfoldable pub bundles : List Handed
-bundles = record { origin = Transfer 0; octets = long } ∷ record { origin = Whole; octets = short } ∷ []
+bundles = record { origin = Some 0; octets = long } ∷ record { origin = None; octets = short } ∷ []
 
 pub used : Flushed Draft02 frames bundles
 unfolding long short frames bundles be32 put kind content_length header content_of written piece padding unless is_refusal Sound.sound Sender.start Sender.place Sender.place_cases Sender.cancel Sender.cancel_cases Sender.flush Sender.flush_cases Framing.placing Framing.place_piece Framing.added Framing.advanced Framing.closed is_ready is_placed taken finished outcome_of
@@ -59,7 +59,7 @@ used =
 
 -- any fresh board that takes these frames hands out both bundles, and the cancelled one not
 pub both_arrive : (w : ℕ) → Window w → (b : Board) → Fresh Draft02 w b → (es : List Entry) → Calls receive b es → map (λ (e : Entry). e.frame) es ≡ frames
-    → handed_of es ≡ delivery (Transfer 0) long ∷ delivery Whole short ∷ []
+    → handed_of es ≡ delivery (Some 0) long ∷ delivery None short ∷ []
 unfolding bundles
 both_arrive w win = (demand2 Draft02 w win).arrives frames bundles used
 
@@ -69,7 +69,7 @@ unfoldable pub frames00 : List (List ℕ)
 frames00 = written Draft00 (last 4294967295 1 (replicate 116 65)) ∷ (written Draft00 (segment 4294967295 0 (replicate 9 65)) ++ written Draft00 (bundle short) ++ padding 100) ∷ []
 
 unfoldable pub bundles00 : List Handed
-bundles00 = record { origin = Transfer 4294967295; octets = long } ∷ record { origin = Whole; octets = short } ∷ []
+bundles00 = record { origin = Some 4294967295; octets = long } ∷ record { origin = None; octets = short } ∷ []
 
 pub used00 : Flushed Draft00 frames00 bundles00
 unfolding long short frames00 bundles00 be32 put kind content_length header content_of written piece padding unless is_refusal Sound.sound Sender.start Sender.place Sender.place_cases Sender.flush Sender.flush_cases Framing.placing Framing.place_piece Framing.added Framing.advanced Framing.closed is_ready is_placed taken finished
@@ -89,6 +89,6 @@ used00 =
     }
 
 pub both_arrive00 : (w : ℕ) → Window w → (b : Board) → Fresh Draft00 w b → (es : List Entry) → Calls receive b es → map (λ (e : Entry). e.frame) es ≡ frames00
-    → handed_of es ≡ delivery (Transfer 4294967295) long ∷ delivery Whole short ∷ []
+    → handed_of es ≡ delivery (Some 4294967295) long ∷ delivery None short ∷ []
 unfolding bundles00
 both_arrive00 w win = (demand2 Draft00 w win).arrives frames00 bundles00 used00

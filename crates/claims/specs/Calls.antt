@@ -1,10 +1,10 @@
 -- A board's calls over a list of frames (document 01, "Receiving call" and "Honest record"), over the receiving call.
-use Rattle.std.specs.Prelude.{◌≡◌, List, [], ◌∷◌, ◌++◌, ℕ, ◌*◌, length, take}
+use Rattle.std.specs.Prelude.{◌≡◌, List, [], ◌∷◌, ◌++◌, ℕ, ◌*◌, length, take, Err, Ok}
 use Rattle.wire.specs.declared.Version.{Version}
 use Rattle.pieces.specs.Pieces.{bundle_max}
-use Rattle.rows.specs.declared.Origin.{Origin}
+use Rattle.rows.specs.Origin.{Origin}
 use Rattle.receiver.specs.declared.Refusal.{Refusal}
-use Rattle.receiver.specs.declared.Answer.TheVariants.{Delivered, Finished, Refused}
+use Rattle.receiver.specs.declared.Answer.TheVariants.{Delivered, Finished}
 use Rattle.rows.specs.State.{fresh}
 use Rattle.rows.specs.Message.{Board}
 use Rattle.receiver.specs.Receive.{Reply}
@@ -35,15 +35,15 @@ module _ (call : Board → List ℕ → ℕ → List ℕ → Reply) where
   pub data Takes (frame : List ℕ) : Board → ℕ → List Delivery → Board → Type 0 where
     -- "Each call gets state and pool as that board's last call left them"; "The output's first octets hold the bundle"
     delivered : {b after : Board} {place : ℕ} {hs : List Delivery} (output : List ℕ) (size next : ℕ) (origin : Origin)
-        → (call b frame place output).answer ≡ Delivered size next origin
+        → (call b frame place output).answer ≡ Ok (Delivered size next origin)
         → Takes frame (call b frame place output).board next hs after
         → Takes frame b place (record { origin = origin; size = size; octets = take size (call b frame place output).output } ∷ hs) after
     finished : {b : Board} {place : ℕ} (output : List ℕ)
-        → (call b frame place output).answer ≡ Finished
+        → (call b frame place output).answer ≡ Ok Finished
         → Takes frame b place [] (call b frame place output).board
     -- "Calls with that state and pool that are refused for their frame, place or output may stand anywhere between"
     refused : {b after : Board} {place : ℕ} {hs : List Delivery} (other : List ℕ) (at : ℕ) (output : List ℕ) (r : Refusal)
-        → (call b other at output).answer ≡ Refused r
+        → (call b other at output).answer ≡ Err r
         → Takes frame (call b other at output).board place hs after
         → Takes frame b place hs after
 
@@ -53,5 +53,5 @@ module _ (call : Board → List ℕ → ℕ → List ℕ → Reply) where
     taken : {b after : Board} {frame : List ℕ} {hs : List Delivery} {es : List Entry}
         → Takes frame b 0 hs after → Calls after es → Calls b (record { frame = frame; handed = hs } ∷ es)
     between : {b : Board} {es : List Entry} (other : List ℕ) (place : ℕ) (output : List ℕ) (r : Refusal)
-        → (call b other place output).answer ≡ Refused r
+        → (call b other place output).answer ≡ Err r
         → Calls (call b other place output).board es → Calls b es

@@ -1,6 +1,6 @@
 -- Demand 3 (document 01, "Honest record"): one claim about two whole lists of receiving calls, over the draft and the two
 -- boards' windows.
-use Rattle.std.specs.Prelude.{◌≡◌, ℕ, ◌+◌, ◌-◌, ◌≤◌, ◌<◌, length}
+use Rattle.std.specs.Prelude.{◌≡◌, ℕ, ◌+◌, ◌-◌, ◌≤◌, ◌<◌, length, None, Some}
 use mathlib.Core.List.{List, [], ◌∷◌, ◌++◌, Memᴰ}
 use Rattle.wire.specs.declared.Version.{Version}
 use Rattle.wire.specs.Message.{Message, skipped, bundle, segment, last, cancel}
@@ -8,8 +8,7 @@ use Rattle.wire.specs.Frame.{messages}
 use Rattle.window.specs.Window.{distance}
 use Rattle.pieces.specs.declared.Order.{Order}
 use Rattle.pieces.specs.declared.Order.TheVariants.{Rising, Falling}
-use Rattle.rows.specs.declared.Origin.{Origin}
-use Rattle.rows.specs.declared.Origin.TheVariants.{Whole, Transfer}
+use Rattle.rows.specs.Origin.{Origin}
 use Rattle.rows.specs.Message.{Draft, draft, Board}
 use Rattle.receiver.specs.Receive.{receive}
 use Rattle.claims.specs.Record.{Transfers, number_at, piece_at, Record}
@@ -28,7 +27,7 @@ delivery origin octets = record { origin = origin; size = length octets; octets 
 -- "No transfer twice: no number stands in two answers of one board."
 unfoldable pub NoTransferTwice : List Delivery → Type 0
 NoTransferTwice [] = Unit {0}
-NoTransferTwice (h ∷ hs) = ((g : Delivery) (t : ℕ) → Memᴰ g hs → h.origin ≡ Transfer t → g.origin ≡ Transfer t → ⊥) × NoTransferTwice hs
+NoTransferTwice (h ∷ hs) = ((g : Delivery) (t : ℕ) → Memᴰ g hs → h.origin ≡ Some t → g.origin ≡ Some t → ⊥) × NoTransferTwice hs
 
 -- "Behind is counted along the record's numbers": how many places after the first the transfer messages stand, in order
 unfoldable pub places : ℕ → List Message → List ℕ
@@ -65,7 +64,7 @@ pub data With (F : List ℕ → Type 0) : List Entry → List Entry → Type 0 w
 unfoldable pub Kept : {F : List ℕ → Type 0} {xs ys : List Entry} → List Delivery → List Delivery → With F xs ys → Type 0
 Kept x y none = Unit {0}
 Kept x y (same {a} {b} e f) =
-    ((h : Delivery) (t : ℕ) → h.origin ≡ Transfer t → Memᴰ h (x ++ a.handed) → Memᴰ h (y ++ b.handed)) × Kept (x ++ a.handed) (y ++ b.handed) f
+    ((h : Delivery) (t : ℕ) → h.origin ≡ Some t → Memᴰ h (x ++ a.handed) → Memᴰ h (y ++ b.handed)) × Kept (x ++ a.handed) (y ++ b.handed) f
 Kept x y (more {b} c f) = Kept x (y ++ b.handed) f
 
 -- "in it and in demand 2 sender, record and boards are of one draft" (document 02, E5)
@@ -83,10 +82,10 @@ module _ {v : Version} (R : Record v) where
   -- "Bundles of the record, by length and octets, are:"
   pub data OfRecord : Delivery → Type 0 where
     -- "the contents of its bundle messages, answered without a number;"
-    content : (c : List ℕ) → InRecord (bundle c) → OfRecord (delivery Whole c)
+    content : (c : List ℕ) → InRecord (bundle c) → OfRecord (delivery None c)
     -- "and, for each number with all its pieces, these joined as 'One row' joins them, answered with that number"
     joined : (k : ℕ) → k < T.count → 0 < length (T.pieces k) → ((i : ℕ) → i < length (T.pieces k) → InRecord (piece_at T k i))
-        → OfRecord (delivery (Transfer (number_at T k)) (join D.order (T.pieces k)))
+        → OfRecord (delivery (Some (number_at T k)) (join D.order (T.pieces k)))
 
   -- A fresh board of window w takes frames of the record; es are its whole list.
   pub record Reception (w : ℕ) (es : List Entry) : Type 0 where

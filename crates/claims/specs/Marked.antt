@@ -1,12 +1,12 @@
 -- The marked cases of document 01, M1 to M13: fresh state as a plain start leaves it, place 0. M7 is as request E2 of document 02 corrects it.
-use Rattle.std.specs.Prelude.{List, [], ◌∷◌, ℕ, take, length, replicate}
+use Rattle.std.specs.Prelude.{List, [], ◌∷◌, ℕ, take, length, replicate, None, Some, Err, Ok, Result}
 use Rattle.std.proofs.Math.Option.{Option, none, some}
 use Rattle.wire.specs.declared.Version.{Version}
 use Rattle.window.specs.Window.{plain_window}
-use Rattle.rows.specs.declared.Origin.{Origin}
-use Rattle.rows.specs.declared.Origin.TheVariants.{Whole, Transfer}
+use Rattle.rows.specs.Origin.{Origin}
 use Rattle.receiver.specs.declared.Answer.{Answer}
-use Rattle.receiver.specs.declared.Answer.TheVariants.{Delivered, Finished, Refused}
+use Rattle.receiver.specs.declared.Refusal.{Refusal}
+use Rattle.receiver.specs.declared.Answer.TheVariants.{Delivered, Finished}
 use Rattle.rows.specs.State.{fresh}
 use Rattle.rows.specs.Message.{Board}
 use Rattle.receiver.specs.Receive.{refusal_number, refusal_place, Reply, receive}
@@ -20,13 +20,13 @@ pub data Marked : Type 0 where
   refused : ℕ → Option ℕ → Marked
 
 abbrev pub transfer_of : Origin → Option ℕ
-transfer_of Whole = none
-transfer_of (Transfer t) = some t
+transfer_of None = none
+transfer_of (Some t) = some t
 
-unfoldable pub marked_as : Answer → List ℕ → Marked
-marked_as (Delivered size next origin) output = bundle size (take size output) next (transfer_of origin)
-marked_as Finished output = finished
-marked_as (Refused refusal) output = refused (refusal_number refusal) (refusal_place refusal)
+unfoldable pub marked_as : Result Answer Refusal → List ℕ → Marked
+marked_as (Ok (Delivered size next origin)) output = bundle size (take size output) next (transfer_of origin)
+marked_as (Ok Finished) output = finished
+marked_as (Err refusal) output = refused (refusal_number refusal) (refusal_place refusal)
 
 unfoldable pub marked : Reply → Marked
 marked r = marked_as r.answer r.output

@@ -1,11 +1,10 @@
 -- A sender used as document 01 says ("Sending calls", from "Demand 2 is about a sender after start" on).
-use Rattle.std.specs.Prelude.{◌≡◌, Bool, true, false, cond, not, ◌&&◌, List, [], ◌∷◌, ◌++◌, ℕ}
+use Rattle.std.specs.Prelude.{◌≡◌, Bool, true, false, cond, not, ◌&&◌, List, [], ◌∷◌, ◌++◌, ℕ, None, Some}
 use Rattle.wire.specs.declared.Version.{Version}
 use Rattle.framing.specs.declared.State.{State}
 use Rattle.framing.specs.Answers.{Reply, placed, placed_and_ready, ready, nothing, refused, Outcome}
 use Rattle.sender.specs.Answers.{made, is_refusal}
 use Rattle.sender.specs.Calls.{start, place, cancel, flush}
-use Rattle.rows.specs.declared.Origin.TheVariants.{Whole, Transfer}
 use Rattle.rows.specs.Message.{Handed}
 
 -- "Answers: Placed; Placed and ready; Ready."
@@ -31,7 +30,7 @@ taken o = cond (is_ready o.answer) (o.frame ∷ []) []
 -- "the bundle is at its end when nothing is begun after it": bundle b of a call on state s, as a transfer if one was begun
 unfoldable pub finished : State → List ℕ → Outcome → List Handed
 finished s b o =
-    cond (is_placed o.answer && not o.state.begun) (record { origin = cond s.begun (Transfer s.number) Whole; octets = b } ∷ []) []
+    cond (is_placed o.answer && not o.state.begun) (record { origin = cond s.begun (Some s.number) None; octets = b } ∷ []) []
 
 -- the calls after start
 pub data Call : Type 0 where

@@ -4,16 +4,17 @@ use mathlib.Core.List.{List, [], ◌∷◌, Memᴰ}
 use Prim.Native.Nat.{ℕ}
 use native.Mathlib.Omega.{arith}
 use lib.ListN.{get_or, set, take}
+use Rattle.std.proofs.Common.{Err, Ok, Result}
 use Rattle.octets.specs.Octets.{Octets}
 use Rattle.wire.proofs.Bounds.{read_low}
 use Rattle.rows.specs.State.{window_of}
-use Rattle.rows.specs.declared.Origin.{Origin}
+use Rattle.rows.specs.Origin.{Origin}
 use Rattle.rows.specs.declared.State.{State}
 use Rattle.rows.specs.Message as Rows
 use Rattle.rows.specs.Message.{draft_of}
 use Rattle.messages.specs.Run.{origin_number}
 use Rattle.receiver.specs.declared.Answer.{Answer}
-use Rattle.receiver.specs.declared.Answer.TheVariants.{Delivered, Finished, Refused}
+use Rattle.receiver.specs.declared.Answer.TheVariants.{Delivered, Finished}
 use Rattle.receiver.specs.declared.Refusal.{Refusal}
 use Rattle.receiver.specs.Receive.{Reply, receive}
 use Rattle.receiver.proofs.Refusals.{number-some}
@@ -65,50 +66,50 @@ module _ (s : State) (b : Board) (O : On s b) (frame : List ℕ) (place : ℕ) (
   on-left low = record { image = image-of; good = call_good s O.good b.pool frame place output low }
 
   -- what a host sees, and what was answered
-  refused-not : (q : Refusal) → r.answer ≡ Refused q → e.status ≡ 0 → ⊥
+  refused-not : (q : Refusal) → r.answer ≡ Err q → e.status ≡ 0 → ⊥
   refused-not q a z = omega (arith, sym status-of ∙ z, ap status a, number-some q)
 
-  saw_bundle : e.status ≡ 0 → entry e 0 ≡ 1 → (n next : ℕ) × (o : Origin) × (r.answer ≡ Delivered n next o)
+  saw_bundle : e.status ≡ 0 → entry e 0 ≡ 1 → (n next : ℕ) × (o : Origin) × (r.answer ≡ Ok (Delivered n next o))
   unfolding report
   saw_bundle z one = go r.answer refl
     where
-      go : (a : Answer) → r.answer ≡ a → (n next : ℕ) × (o : Origin) × (r.answer ≡ Delivered n next o)
-      go (Delivered n next o) q = (n, next, o, q)
-      go Finished q = absurd (omega (arith, one, ap (λ (l : List ℕ). get_or l 0 0) (result-of ∙ ap (λ (a : Answer). report a result) q), first-zero result))
-      go (Refused f) q = absurd (refused-not f q z)
+      go : (a : Result Answer Refusal) → r.answer ≡ a → (n next : ℕ) × (o : Origin) × (r.answer ≡ Ok (Delivered n next o))
+      go (Ok (Delivered n next o)) q = (n, next, o, q)
+      go (Ok Finished) q = absurd (omega (arith, one, ap (λ (l : List ℕ). get_or l 0 0) (result-of ∙ ap (λ (a : Result Answer Refusal). report a result) q), first-zero result))
+      go (Err f) q = absurd (refused-not f q z)
 
-  saw_finished : e.status ≡ 0 → entry e 0 ≡ 0 → r.answer ≡ Finished
+  saw_finished : e.status ≡ 0 → entry e 0 ≡ 0 → r.answer ≡ Ok Finished
   unfolding report
   saw_finished z none = go r.answer refl
     where
-      go : (a : Answer) → r.answer ≡ a → r.answer ≡ Finished
-      go (Delivered n next o) q = absurd (omega (arith, none, ap (λ (l : List ℕ). get_or l 0 0) (result-of ∙ ap (λ (a : Answer). report a result) q)))
-      go Finished q = q
-      go (Refused f) q = absurd (refused-not f q z)
+      go : (a : Result Answer Refusal) → r.answer ≡ a → r.answer ≡ Ok Finished
+      go (Ok (Delivered n next o)) q = absurd (omega (arith, none, ap (λ (l : List ℕ). get_or l 0 0) (result-of ∙ ap (λ (a : Result Answer Refusal). report a result) q)))
+      go (Ok Finished) q = q
+      go (Err f) q = absurd (refused-not f q z)
 
-  saw_refused : (e.status ≡ 0 → ⊥) → (q : Refusal) × (r.answer ≡ Refused q)
+  saw_refused : (e.status ≡ 0 → ⊥) → (q : Refusal) × (r.answer ≡ Err q)
   saw_refused n = go r.answer refl
     where
-      go : (a : Answer) → r.answer ≡ a → (q : Refusal) × (r.answer ≡ Refused q)
-      go (Delivered k next o) q = absurd (n (status-of ∙ ap status q))
-      go Finished q = absurd (n (status-of ∙ ap status q))
-      go (Refused f) q = (f, q)
+      go : (a : Result Answer Refusal) → r.answer ≡ a → (q : Refusal) × (r.answer ≡ Err q)
+      go (Ok (Delivered k next o)) q = absurd (n (status-of ∙ ap status q))
+      go (Ok Finished) q = absurd (n (status-of ∙ ap status q))
+      go (Err f) q = (f, q)
 
   -- a bundle as the host reads it off the result
-  reads_bundle : Octets frame → (n next : ℕ) (o : Origin) → r.answer ≡ Delivered n next o
+  reads_bundle : Octets frame → (n next : ℕ) (o : Origin) → r.answer ≡ Ok (Delivered n next o)
       → (bundle_of e ≡ record { origin = o; size = n; octets = take n r.output }) × (entry e 2 ≡ next) × (entry e 0 ≡ 1) × (e.status ≡ 0)
   unfolding report
   reads_bundle low n next o a =
-      let l : e.result ≡ 1 ∷ n ∷ next ∷ origin_number o ∷ [] = result-of ∙ ap (λ (a : Answer). report a result) a in
+      let l : e.result ≡ 1 ∷ n ∷ next ∷ origin_number o ∷ [] = result-of ∙ ap (λ (a : Result Answer Refusal). report a result) a in
       let back = origin_back o (rw a at (receive-hands (window_of s) (draft_of s) (read_low s.settings.version) (with s b.pool) frame place output low)) in
       (rw (l, output-of, back), rw l, rw l, status-of ∙ ap status a)
 
-  finished-entry : r.answer ≡ Finished → entry e 0 ≡ 0
+  finished-entry : r.answer ≡ Ok Finished → entry e 0 ≡ 0
   unfolding report
   finished-entry a = rw (result-of, a) (first-zero result)
 
   -- a refused call leaves the board
-  refused-left : (q : Refusal) → r.answer ≡ Refused q → On s (left e) × (e.pool ≡ b.pool)
+  refused-left : (q : Refusal) → r.answer ≡ Err q → On s (left e) × (e.pool ≡ b.pool)
   refused-left q a =
       let k = refused-keeps (draft_of s) (window_of s) (with s b.pool) frame place output q a in
       (record { image = image-of ∙ ap (λ (x : Rows.Board). image_of x.state) k; good = O.good }, pool_of ∙ ap (λ (x : Rows.Board). x.pool) k)
@@ -127,12 +128,12 @@ module _ (frame : List ℕ) (low : Octets frame) where
 
   on_bundle : {hs : List Delivery} {after : Board} (s : State) (pool : List ℕ) (place : ℕ) (output : List ℕ) (n next : ℕ) (o : Origin) (pool' : List ℕ) (next' : ℕ)
       → let r : Reply = receive (with s pool) frame place output in
-      r.answer ≡ Delivered n next o → pool' ≡ r.board.pool → next' ≡ next → Came (OnStates r.board.state pool' next' hs after) after
+      r.answer ≡ Ok (Delivered n next o) → pool' ≡ r.board.pool → next' ≡ next → Came (OnStates r.board.state pool' next' hs after) after
       → Came (OnStates s pool place (record { origin = o; size = n; octets = take n r.output } ∷ hs) after) after
   on_bundle s pool place output n next o pool' next' a ep en c = record { state = c.state; on = c.on; is = States.delivered output n next o a (rw (ep, en) at c.is) }
 
   on-refused : {place : ℕ} {hs : List Delivery} {after : Board} (s : State) (pool other : List ℕ) (at : ℕ) (output : List ℕ) (q : Refusal)
-      → (receive (with s pool) other at output).answer ≡ Refused q → Came (OnStates s pool place hs after) after → Came (OnStates s pool place hs after) after
+      → (receive (with s pool) other at output).answer ≡ Err q → Came (OnStates s pool place hs after) after → Came (OnStates s pool place hs after) after
   on-refused {place} {hs} {after} s pool other at output q a c =
       let t : States.Takes receive frame (receive (with s pool) other at output).board place hs (with c.state after.pool) =
       rw (refused-keeps (draft_of s) (window_of s) (with s pool) other at output q a) c.is in
@@ -207,7 +208,7 @@ module _ (b : Rows.Board) (g : Good b.state) (frame : List ℕ) (place : ℕ) (o
       λ j. record { image = i j; pool = p j }
 
   -- a refused call between others
-  refused_imaged : (q : Refusal) → (receive b frame place output).answer ≡ Refused q → (call (imaged b) frame place output four).status ≡ 0 → ⊥
+  refused_imaged : (q : Refusal) → (receive b frame place output).answer ≡ Err q → (call (imaged b) frame place output four).status ≡ 0 → ⊥
   refused_imaged = refused-not b.state (imaged b) O frame place output four
 
 module _ (frame : List ℕ) (low : Octets frame) where

@@ -5,6 +5,7 @@ use mathlib.Core.List.{List}
 use Prim.Native.Nat.{ℕ}
 use native.Mathlib.Omega.{arith}
 use lib.ListN.{length, get_or}
+use Rattle.std.proofs.Common.{Result, Ok, Err}
 use Rattle.octets.specs.Octets.{Octets}
 use Rattle.wire.proofs.Spans.{sized}
 use Rattle.rows.specs.State.{window_of}
@@ -13,8 +14,7 @@ use Rattle.rows.specs.declared.State.{State}
 use Rattle.rows.specs.Message.{draft_of, Board}
 use Rattle.frames.specs.Singles.{room_in}
 use Rattle.frames.proofs.Costs.{priced_read}
-use Rattle.burst.specs.declared.Answer.{Answer}
-use Rattle.burst.specs.declared.Answer.TheVariants.{Taken, Refused}
+use Rattle.burst.specs.declared.Taken.{Taken}
 use Rattle.burst.specs.declared.Refusal.{Refusal}
 use Rattle.burst.specs.declared.Refusal.TheVariants.{Unsound, BufferSize, FrameCount, OctetCount, Misplaced}
 use Rattle.burst.specs.Burst.{refusal_number, limits, Lists, Reply, refusal, receive_burst}
@@ -28,9 +28,9 @@ use Rattle.answers.specs.Burst.{status, report, kept}
 use Rattle.board.specs.Burst.{Exported, exported, burst}
 use Rattle.demands.proofs.Images.{Good, with, fits}
 
-status-number : (a : Answer) → status a ≡ burst_number a
-status-number (Taken bundles used frame at refused₁) = refl
-status-number (Refused f) = refl
+status-number : (a : Result Taken Refusal) → status a ≡ burst_number a
+status-number (Ok t) = refl
+status-number (Err f) = refl
 
 none-refused : (f : Refusal) → refusal_number f ≡ 0 → ⊥
 none-refused Unsound z = omega arith
@@ -54,7 +54,7 @@ module _ (s : State) (g : Good s) (pool sizes octets : List ℕ) (k place : ℕ)
   exports = rw (image-of-is s (fits s g), state_back s (fits s g))
 
   -- a burst that is refused gives the board back
-  pub keeps : (q : Refusal) → r.answer ≡ Refused q → r.board ≡ b
+  pub keeps : (q : Refusal) → r.answer ≡ Err q → r.board ≡ b
   keeps q a = go (refusal (draft_of s) (window_of s) b sizes octets k place l.output) refl
     where
       go : (o : Option Refusal) → refusal (draft_of s) (window_of s) b sizes octets k place l.output ≡ o → r.board ≡ b
@@ -65,9 +65,9 @@ module _ (s : State) (g : Good s) (pool sizes octets : List ℕ) (k place : ℕ)
   unfolding exported kept
   image-left = ap (λ (x : Exported). x.image) exports ∙ go r.answer refl
     where
-      go : (a : Answer) → r.answer ≡ a → kept a (image_of s) r.board.state ≡ image_of r.board.state
-      go (Taken bundles used frame at refused₁) q = refl
-      go (Refused f) q = rw (keeps f q)
+      go : (a : Result Taken Refusal) → r.answer ≡ a → kept a (image_of s) r.board.state ≡ image_of r.board.state
+      go (Ok t) q = refl
+      go (Err f) q = rw (keeps f q)
 
   status-is : e.status ≡ status r.answer
   unfolding exported
@@ -80,11 +80,11 @@ module _ (s : State) (g : Good s) (pool sizes octets : List ℕ) (k place : ℕ)
     pub burst-good : Good r.board.state
     burst-good = go r.answer refl
       where
-        go : (a : Answer) → r.answer ≡ a → Good r.board.state
-        go (Refused f) q = rw (keeps f q) g
-        go (Taken bundles used k' place' refused₁) q =
-            let R = burst-ready (draft_of s) (sized s.settings.version) (priced_read s.settings.version) (window_of s) (sound-window s g.sound) b sizes octets k place l bundles used k' place' refused₁ shaped short q in
-            let E = burst_equals_draft s.settings.version (window_of s) (sound-window s g.sound) b sizes octets k place l bundles used k' place' refused₁ shaped long short q in
+        go : (a : Result Taken Refusal) → r.answer ≡ a → Good r.board.state
+        go (Err f) q = rw (keeps f q) g
+        go (Ok t) q =
+            let R = burst-ready (draft_of s) (sized s.settings.version) (priced_read s.settings.version) (window_of s) (sound-window s g.sound) b sizes octets k place l t.bundles t.octets t.frame t.place t.refused shaped short q in
+            let E = burst_equals_draft s.settings.version (window_of s) (sound-window s g.sound) b sizes octets k place l t.bundles t.octets t.frame t.place t.refused shaped long short q in
             record { sound = R.sound; shaped = R.shaped; rows = R.rows; low = singles-low s.settings.version (window_of s) (room_in limits (length l.output)) sizes octets E.calls low g.low }
 
     -- a burst that returns 0 is single calls on the state
@@ -105,10 +105,10 @@ module _ (s : State) (g : Good s) (pool sizes octets : List ℕ) (k place : ℕ)
         result-is : e.result ≡ report r.answer result
         result-is = ap (λ (x : Exported). x.result) exports
 
-        go : (a : Answer) → r.answer ≡ a
+        go : (a : Result Taken Refusal) → r.answer ≡ a
             → Equals (draft_of s) (window_of s) b sizes octets k place l (with (state_of e.image) e.pool) e.lists (get_or e.result 0 0) (get_or e.result 1 0) (get_or e.result 2 0) (get_or e.result 3 0) (get_or e.result 4 0)
-        go (Taken bundles used k' place' refused₁) q = rw (back, pool_left, lists-left, result-is, q) (burst_equals_draft s.settings.version (window_of s) (sound-window s g.sound) b sizes octets k place l bundles used k' place' refused₁ shaped long short q)
-        go (Refused f) q = absurd (none-refused f (sym (ap status q) ∙ sym status-is ∙ zero))
+        go (Ok t) q = rw (back, pool_left, lists-left, result-is, q) (burst_equals_draft s.settings.version (window_of s) (sound-window s g.sound) b sizes octets k place l t.bundles t.octets t.frame t.place t.refused shaped long short q)
+        go (Err f) q = absurd (none-refused f (sym (ap status q) ∙ sym status-is ∙ zero))
 
   -- with a sound state it is not refused with 1
   pub burst-taken : e.status ≡ 1 → ⊥

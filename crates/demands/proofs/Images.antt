@@ -8,6 +8,7 @@ use lib.ListN.{length, get_or, replicate, length-replicate}
 use borrow.Author.Tests.{ne_eqb}
 use mathlib.Core.Bool.{true, false}
 use mathlib.Core.Logic.{◌⊎◌, inl, inr}
+use Rattle.std.proofs.Common.{None, Some, Err, Ok, Result}
 use Rattle.octets.specs.Octets.{Octets}
 use Rattle.octets.proofs.Flags.{bool}
 use Rattle.wire.specs.declared.Version.{Version}
@@ -17,8 +18,7 @@ use Rattle.pieces.specs.Pieces.{bundle_max}
 use Rattle.row.specs.declared.Phase.TheVariants.{Free}
 use Rattle.row.specs.Row.{empty_row}
 use Rattle.row.proofs.Shaped.{Shaped}
-use Rattle.rows.specs.declared.Origin.{Origin}
-use Rattle.rows.specs.declared.Origin.TheVariants.{Whole, Transfer}
+use Rattle.rows.specs.Origin.{Origin}
 use Rattle.rows.specs.declared.State.{State}
 use Rattle.rows.specs.State as State
 use Rattle.rows.specs.State.{window_of, row_max, fresh}
@@ -26,7 +26,7 @@ use Rattle.rows.specs.Message.{draft_of, Board}
 use Rattle.rows.proofs.Rows.{get_or_any, sound-window}
 use Rattle.messages.specs.Run.{origin_number}
 use Rattle.receiver.specs.declared.Answer.{Answer}
-use Rattle.receiver.specs.declared.Answer.TheVariants.{Delivered, Finished, Refused}
+use Rattle.receiver.specs.declared.Answer.TheVariants.{Delivered, Finished}
 use Rattle.receiver.specs.declared.Refusal.{Refusal}
 use Rattle.receiver.specs.Receive.{Reply, refusal, receive}
 use Rattle.receiver.proofs.Ready.{Ready, fresh-ready, receive-ready}
@@ -85,8 +85,8 @@ call_good s g pool frame place output low = go (refusal (draft_of s) (window_of 
 
 pub origin_back : (o : Origin) → LowOrigin o → origin_of (origin_number o) ≡ o
 unfolding origin_of
-origin_back Whole l = refl
-origin_back (Transfer t) l = rw (ne_eqb t (2 ^ 32) (λ e. omega arith))
+origin_back None l = refl
+origin_back (Some t) l = rw (ne_eqb t (2 ^ 32) (λ e. omega arith))
 
 -- ---- the call
 
@@ -105,10 +105,10 @@ module _ (s : State) (g : Good s) (pool frame : List ℕ) (place : ℕ) (output 
   unfolding exported kept
   image-left = ap (λ (x : Exported). x.image) exports ∙ go r.answer refl
     where
-      go : (a : Answer) → r.answer ≡ a → kept a (image_of s) r.board.state ≡ image_of r.board.state
-      go (Delivered n next o) q = refl
-      go Finished q = refl
-      go (Refused f) q = rw (refused-keeps (draft_of s) (window_of s) (with s pool) frame place output f q)
+      go : (a : Result Answer Refusal) → r.answer ≡ a → kept a (image_of s) r.board.state ≡ image_of r.board.state
+      go (Ok (Delivered n next o)) q = refl
+      go (Ok Finished) q = refl
+      go (Err f) q = rw (refused-keeps (draft_of s) (window_of s) (with s pool) frame place output f q)
 
   pub pool_left : e.pool ≡ r.board.pool
   unfolding exported

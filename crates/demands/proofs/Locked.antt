@@ -6,13 +6,15 @@ use Prim.Native.Nat.{ℕ}
 use native.Mathlib.Omega.{arith}
 use lib.ListN.{length}
 use lib.Dec.{eqb, ltb}
+use Rattle.std.proofs.Common.{Err, Ok, Result}
 use Rattle.octets.proofs.Flags.{cond_elim}
 use Rattle.pieces.specs.Pieces.{bundle_max}
 use Rattle.rows.specs.declared.State as Row
 use Rattle.rows.specs.State.{window_of, fresh}
 use Rattle.rows.specs.Message.{draft_of}
 use Rattle.receiver.specs.declared.Answer.{Answer}
-use Rattle.receiver.specs.declared.Answer.TheVariants.{Delivered, Finished, Refused}
+use Rattle.receiver.specs.declared.Refusal.{Refusal}
+use Rattle.receiver.specs.declared.Answer.TheVariants.{Delivered, Finished}
 use Rattle.receiver.specs.Receive.{receive}
 use Rattle.receiver.proofs.Bounds.{refused-for}
 use Rattle.receiver.proofs.Refusals.{sound-not-one}
@@ -77,10 +79,10 @@ receive-taken : (s : Row.State) → Images.Good s → (pool frame : List ℕ) (p
 receive-taken s g pool frame place output result e =
     go (receive (with s pool) frame place output).answer refl (rw (Images.status-is s g pool frame place output result) at e)
   where
-    go : (a : Answer) → (receive (with s pool) frame place output).answer ≡ a → number_in (Answers.status a) ≡ 1 → ⊥
-    go (Delivered n next o) q e = omega arith
-    go Finished q e = omega arith
-    go (Refused f) q e =
+    go : (a : Result Answer Refusal) → (receive (with s pool) frame place output).answer ≡ a → number_in (Answers.status a) ≡ 1 → ⊥
+    go (Ok (Delivered n next o)) q e = omega arith
+    go (Ok Finished) q e = omega arith
+    go (Err f) q e =
         sound-not-one (draft_of s) (window_of s) (with s pool) frame place output g.sound f (refused-for (draft_of s) (window_of s) (with s pool) frame place output f q) (sym (number-back f) ∙ e)
 
 -- ---- the sender

@@ -8,6 +8,7 @@ use native.Mathlib.Omega.{arith}
 use lib.Dec.{ltb}
 use borrow.Author.Tests.{eq-eqb, le-ltb, lt-ltb}
 use lib.ListN.{length, take}
+use Rattle.std.proofs.Common.{Err, Ok}
 use Rattle.wire.specs.declared.Version.{Version}
 use Rattle.wire.specs.Frame.{Item, Sized}
 use Rattle.wire.proofs.Order.{good_place}
@@ -15,10 +16,10 @@ use Rattle.wire.proofs.Places.{taken as accepted}
 use Rattle.wire.proofs.Spans.{sized}
 use Rattle.window.specs.Window.{Window}
 use Rattle.pieces.specs.Pieces.{bundle_max}
-use Rattle.rows.specs.declared.Origin.{Origin}
+use Rattle.rows.specs.Origin.{Origin}
 use Rattle.rows.specs.Message.{Draft, Board, Handed, draft, messages_from}
 use Rattle.receiver.specs.declared.Refusal.{Refusal}
-use Rattle.receiver.specs.declared.Answer.TheVariants.{Delivered, Refused}
+use Rattle.receiver.specs.declared.Answer.TheVariants.{Delivered}
 use Rattle.receiver.specs.Receive.{Reply, number_of, unfit, refusal, treat, receive_as}
 use Rattle.receiver.proofs.Ready.{Ready, receive-ready, fresh-ready}
 use Rattle.receiver.proofs.Standing as Standing
@@ -59,7 +60,7 @@ module _ (D : Draft) (M : (xs : List ℕ) → Sized (length xs) (D.read xs)) (w 
 
     -- where the next call goes on, a message stands or the frame ends
     onward : (b : Board) (at : ℕ) (is : List Item) (output : List ℕ) (size next : ℕ) (origin : Origin) → Ready w b → At at is → bundle_max ≤ length output
-        → (receive_as D w b f at output).answer ≡ Delivered size next origin → (js : List Item) × At next js
+        → (receive_as D w b f at output).answer ≡ Ok (Delivered size next origin) → (js : List Item) × At next js
     onward b at is output size next origin R A big a = go (treating D w b is output)
       where
         r : receive_as D w b f at output ≡ treat D w b is output
@@ -68,7 +69,7 @@ module _ (D : Draft) (M : (xs : List ℕ) → Sized (length xs) (D.read xs)) (w 
         go : Treated D w b is output → (js : List Item) × At next js
         go (through x h q) = let z : ◌≡◌ {A = ℕ} 0 1 = cc (ap (λ (y : Reply). y.answer) r) in absurd (omega arith)
         go (stops_at pre i suf h q x t hs v) =
-            let e : Delivered size next origin ≡ Delivered (length h.octets) i.next h.origin = sym a ∙ ap (λ (y : Reply). y.answer) r ∙ x in
+            let e : Ok (Delivered size next origin) ≡ Ok (Delivered (length h.octets) i.next h.origin) = sym a ∙ ap (λ (y : Reply). y.answer) r ∙ x in
             let n : next ≡ i.next = cc in
             (suf, rw n (at_next D M f F.items F.whole A pre i suf q))
 
@@ -89,14 +90,14 @@ module _ (D : Draft) (M : (xs : List ℕ) → Sized (length xs) (D.read xs)) (w 
     unfolding refusal
     for_itself = rw (R.sound, eq-eqb (length b.pool) (w * bundle_max) R.pool, le-ltb (length output) bundle_max big)
 
-    not-refused : ((q : Refusal) → (receive_as D w b f 0 output).answer ≡ Refused q → ⊥) → unfit D f 0 ≡ none
+    not-refused : ((q : Refusal) → (receive_as D w b f 0 output).answer ≡ Err q → ⊥) → unfit D f 0 ≡ none
     not-refused never = go (unfit D f 0) refl
       where
         go : (o : Option Refusal) → unfit D f 0 ≡ o → unfit D f 0 ≡ none
         go none e = e
         go (some q) e = absurd (never q (ap (λ (y : Reply). y.answer) (refused D w b f 0 output q (for_itself ∙ e))))
 
-    is-refused : (q : Refusal) → (receive_as D w b f 0 output).answer ≡ Refused q → 0 < number_of (unfit D f 0)
+    is-refused : (q : Refusal) → (receive_as D w b f 0 output).answer ≡ Err q → 0 < number_of (unfit D f 0)
     is-refused q a = go (unfit D f 0) refl
       where
         go : (o : Option Refusal) → unfit D f 0 ≡ o → 0 < number_of (unfit D f 0)
@@ -134,7 +135,7 @@ module _ (D : Draft) (M : (xs : List ℕ) → Sized (length xs) (D.read xs)) (w 
         ready = r.ready;
       }
 
-  refused-first : (f : List ℕ) (fs : List (List ℕ)) (b after : Board) (hs : List Handed) (output : List ℕ) (q : Refusal) → 0 < number_of (unfit D f 0) → (receive_as D w b f 0 output).answer ≡ Refused q
+  refused-first : (f : List ℕ) (fs : List (List ℕ)) (b after : Board) (hs : List Handed) (output : List ℕ) (q : Refusal) → 0 < number_of (unfit D f 0) → (receive_as D w b f 0 output).answer ≡ Err q
       → AllTaken fs b hs after → AllTaken (f ∷ fs) b hs after
   unfolding fitting
   refused-first f fs b after hs output q n a r = record {

@@ -4,6 +4,7 @@ use mathlib.Core.List.{List}
 use Prim.Native.Nat.{ℕ, ◌%◌}
 use native.Mathlib.Omega.{arith}
 use lib.ListN.{length}
+use Rattle.std.proofs.Common.{Result, Ok, Err}
 use Rattle.wire.specs.declared.Version.{Version}
 use Rattle.window.proofs.Sizes.{window_range}
 use Rattle.rows.specs.declared.Settings.{Settings}
@@ -15,8 +16,8 @@ use Rattle.rows.proofs.Keeping.{settings_of}
 use Rattle.receiver.proofs.Keeping.{receive-keeps}
 use Rattle.frames.specs.Singles.{room_in}
 use Rattle.frames.proofs.Keeping.{singles-keep}
-use Rattle.burst.specs.declared.Answer.{Answer}
-use Rattle.burst.specs.declared.Answer.TheVariants.{Taken, Refused}
+use Rattle.burst.specs.declared.Taken.{Taken}
+use Rattle.burst.specs.declared.Refusal.{Refusal}
 use Rattle.burst.specs.Burst.{Lists, limits, receive_burst}
 use Rattle.burst.specs.Equal.{Sixteen, Long}
 use Rattle.burst.proofs.Equal.{burst_equals_draft}
@@ -51,11 +52,11 @@ module _ (s : State) (g : Good s) (pool sizes octets : List ℕ) (k place : ℕ)
   burst-keeps : (receive_burst (draft_of s) (window_of s) (with s pool) sizes octets k place l).board.state.settings ≡ s.settings
   burst-keeps = go (receive_burst (draft_of s) (window_of s) (with s pool) sizes octets k place l).answer refl
     where
-      go : (a : Answer) → (receive_burst (draft_of s) (window_of s) (with s pool) sizes octets k place l).answer ≡ a
+      go : (a : Result Taken Refusal) → (receive_burst (draft_of s) (window_of s) (with s pool) sizes octets k place l).answer ≡ a
           → (receive_burst (draft_of s) (window_of s) (with s pool) sizes octets k place l).board.state.settings ≡ s.settings
-      go (Refused f) q = ap settings_of (Bursts.keeps s g pool sizes octets k place l result f q)
-      go (Taken bundles used k' place' refused) q =
-          let E = burst_equals_draft s.settings.version (window_of s) (sound-window s g.sound) (with s pool) sizes octets k place l bundles used k' place' refused (Bursts.shaped s g pool sizes octets k place l result) long short q in
+      go (Err f) q = ap settings_of (Bursts.keeps s g pool sizes octets k place l result f q)
+      go (Ok t) q =
+          let E = burst_equals_draft s.settings.version (window_of s) (sound-window s g.sound) (with s pool) sizes octets k place l t.bundles t.octets t.frame t.place t.refused (Bursts.shaped s g pool sizes octets k place l result) long short q in
           singles-keep (draft_of s) (window_of s) (room_in limits (length l.output)) E.calls
 
 pub settings_kept : SettingsKept

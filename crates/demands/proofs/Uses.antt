@@ -5,6 +5,7 @@ use mathlib.Core.List.{List, [], ◌∷◌, map}
 use Prim.Native.Nat.{ℕ, zero, suc, ◌<◌}
 use native.Mathlib.Omega.{arith}
 use lib.ListN.{replicate}
+use Rattle.std.proofs.Common.{None, Some}
 use Rattle.octets.specs.Octets.{Octets, number, number16, be32, be16, put}
 use Rattle.wire.specs.declared.Version.TheVariants.{Draft00, Draft02}
 use Rattle.wire.specs.Message.{kind, content_length}
@@ -13,7 +14,6 @@ use Rattle.framing.specs.Placing as Framing
 use Rattle.sender.specs.Answers.{unless}
 use Rattle.sender.specs.Sound as Sound
 use Rattle.sender.specs.Calls as Sender
-use Rattle.rows.specs.declared.Origin.TheVariants.{Whole, Transfer}
 use Rattle.images.specs.Receiver.{version_of}
 use Rattle.images.specs.Sender.{is_image, state_of, image_of}
 use Rattle.answers.specs.Sender.{status, report, kept}
@@ -70,7 +70,7 @@ used =
 
 -- any fresh board that takes these frames by `btpu_receive` hands out both bundles, and the cancelled one not
 pub both_arrive : (w : ℕ) (b : Board) → Fresh Draft02 w b → (es : List Entry) → Calls b es → map (λ (e : Entry). e.frame) es ≡ frames
-    → handed_of es ≡ delivery (Transfer 0) long ∷ delivery Whole short ∷ []
+    → handed_of es ≡ delivery (Some 0) long ∷ delivery None short ∷ []
 unfolding bundles
 both_arrive w = (demand2 Draft02 w).arrives frames bundles used
 
@@ -99,6 +99,6 @@ used00 =
     }
 
 pub both_arrive00 : (w : ℕ) (b : Board) → Fresh Draft00 w b → (es : List Entry) → Calls b es → map (λ (e : Entry). e.frame) es ≡ frames00
-    → handed_of es ≡ delivery (Transfer 4294967295) long ∷ delivery Whole short ∷ []
+    → handed_of es ≡ delivery (Some 4294967295) long ∷ delivery None short ∷ []
 unfolding bundles00
 both_arrive00 w = (demand2 Draft00 w).arrives frames00 bundles00 used00

@@ -1,10 +1,9 @@
 -- A board as a host keeps it, by the calls of include/btpu.h: the image of its state and its pool.
-use Rattle.std.specs.Prelude.{◌≡◌, cond, List, [], ◌∷◌, ℕ, ◌*◌, ◌^◌, length, get_or, take, eqb}
+use Rattle.std.specs.Prelude.{◌≡◌, cond, List, [], ◌∷◌, ℕ, ◌*◌, ◌^◌, length, get_or, take, eqb, None, Some}
 use Rattle.octets.specs.Octets.{Octets}
 use Rattle.wire.specs.declared.Version.{Version}
 use Rattle.pieces.specs.Pieces.{bundle_max}
-use Rattle.rows.specs.declared.Origin.{Origin}
-use Rattle.rows.specs.declared.Origin.TheVariants.{Whole, Transfer}
+use Rattle.rows.specs.Origin.{Origin}
 use Rattle.burst.specs.Burst.{Lists}
 use Rattle.burst.specs.Equal.{Sixteen, Long}
 use Rattle.board.specs.Burst as Bursts
@@ -38,7 +37,7 @@ entry e k = get_or e.result k 0
 
 -- result[BTPU_NUMBER]: the transfer number, or BTPU_NO_NUMBER
 unfoldable pub origin_of : ℕ → Origin
-origin_of n = cond (eqb n (2 ^ 32)) Whole (Transfer n)
+origin_of n = cond (eqb n (2 ^ 32)) None (Some n)
 
 -- "the first result[BTPU_LENGTH] octets of the output are a bundle"
 abbrev pub bundle_of : Exported → Delivery

@@ -1,9 +1,8 @@
 -- A sender as a host uses it (document 01, "Sending calls", from "Demand 2 is about a sender after start" on), by the calls of include/btpu.h:
 -- the image of its state and its frame buffer.
-use Rattle.std.specs.Prelude.{◌≡◌, Bool, true, false, cond, not, ◌&&◌, ◌||◌, List, [], ◌∷◌, ◌++◌, ℕ, ◌<◌, ◌^◌, length, get_or, drop, eqb}
+use Rattle.std.specs.Prelude.{◌≡◌, Bool, true, false, cond, not, ◌&&◌, ◌||◌, List, [], ◌∷◌, ◌++◌, ℕ, ◌<◌, ◌^◌, length, get_or, drop, eqb, None, Some}
 use Rattle.octets.specs.Octets.{Octets, number}
 use Rattle.wire.specs.declared.Version.{Version}
-use Rattle.rows.specs.declared.Origin.TheVariants.{Whole, Transfer}
 use Rattle.rows.specs.Message.{Handed}
 use Rattle.board.specs.Sender as Exported
 use Rattle.board.specs.Sender.{Exported, placed_by, cancelled_by, flushed_by}
@@ -28,7 +27,7 @@ taken e = cond (answers e 1 2) (e.frame ∷ []) []
 unfoldable pub finished : List ℕ → List ℕ → Exported → List Handed
 finished image b e =
     cond (answers e 0 1 && not (is_begun e.image))
-    (record { origin = cond (is_begun image) (Transfer (begun_number image)) Whole; octets = b } ∷ []) []
+    (record { origin = cond (is_begun image) (Some (begun_number image)) None; octets = b } ∷ []) []
 
 -- a call with an image, a frame buffer and a result
 unfoldable pub call_of : Call → List ℕ → List ℕ → List ℕ → Exported

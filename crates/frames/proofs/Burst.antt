@@ -9,6 +9,7 @@ use native.Mathlib.Omega.{arith}
 use lib.ListN.{length}
 use lib.Dec.{ltb}
 use borrow.Author.Tests.{eq-eqb, lt-ltb, le-ltb}
+use Rattle.std.proofs.Common.{Err}
 use Rattle.octets.proofs.Flags.{cond_elim}
 use Rattle.wire.specs.Frame.{Item, Sized}
 use Rattle.window.specs.Window.{Window}
@@ -18,7 +19,6 @@ use Rattle.rows.specs.Message.{Draft, Board, Handed, Outcome, step, messages_fro
 use Rattle.messages.specs.declared.Limits.{Limits}
 use Rattle.messages.specs.Run.{Run, roomy, progressed, advanced, run}
 use Rattle.receiver.specs.declared.Refusal.{Refusal}
-use Rattle.receiver.specs.declared.Answer.TheVariants.{Refused}
 use Rattle.receiver.specs.Receive.{refusal_number, number_of, unfit, refusal, replied, receive_as}
 use Rattle.receiver.proofs.Ready.{Ready}
 use Rattle.receiver.proofs.Limit.{few_messages}
@@ -70,7 +70,7 @@ module _ (D : Draft) (M : (xs : List ℕ) → Sized (length xs) (D.read xs)) (C 
   Later fs = (r : Reach) → Stands r fs → Carried r (through D w limits r fs) fs
 
   -- a single call is refused for its frame
-  refused-call : (b : Board) (f : List ℕ) (place : ℕ) (q : Refusal) → Ready w b → unfit D f place ≡ some q → (receive_as D w b f place spare).answer ≡ Refused q
+  refused-call : (b : Board) (f : List ℕ) (place : ℕ) (q : Refusal) → Ready w b → unfit D f place ≡ some q → (receive_as D w b f place spare).answer ≡ Err q
   unfolding receive_as refusal replied
   refused-call b f place q R e = rw (R.sound, eq-eqb (length b.pool) (w * bundle_max) R.pool, le-ltb (length spare) bundle_max big, e)
 

@@ -9,6 +9,7 @@ use native.Mathlib.Omega.{arith}
 use lib.ListN.{length, take}
 use lib.Dec.{ltb}
 use borrow.Author.Tests.{lt-ltb, leb-true}
+use Rattle.std.proofs.Common.{Ok}
 use Rattle.octets.specs.Octets.{put}
 use Rattle.octets.proofs.Flags.{bool, both}
 use Rattle.octets.proofs.Put.{read_back, length-put}
@@ -77,7 +78,7 @@ module _ (D : Draft) (w : ℕ) (limits : Limits) (size : ℕ) (f : List ℕ) (k 
 
   -- a call that hands out x
   hands_out : (b b₁ : Board) (at next count used : ℕ) (spare : List ℕ) (x : Handed) → bundle_max ≤ length spare → room_in limits size count used ≡ true
-      → receive_as D w b f at spare ≡ record { answer = Delivered (length x.octets) next x.origin; board = b₁; output = put spare 0 x.octets }
+      → receive_as D w b f at spare ≡ record { answer = Ok (Delivered (length x.octets) next x.origin); board = b₁; output = put spare 0 x.octets }
       → (hs : List Handed) (ns : List Note) (final : Board) (k' place' : ℕ) → Single k (f ∷ fs) b₁ next (count + 1) (used + length x.octets) hs ns final k' place'
       → Single k (f ∷ fs) b at count used (x ∷ hs) ns final k' place'
   hands_out b b₁ at next count used spare x big free q hs ns final k' place' s =
@@ -87,7 +88,7 @@ module _ (D : Draft) (w : ℕ) (limits : Limits) (size : ℕ) (f : List ℕ) (k 
       rw same at (delivers spare (length x.octets) next x.origin big free (ap (λ (y : Reply). y.answer) q) s₁)
 
   behind : (b b₁ : Board) (at next count used : ℕ) (spare : List ℕ) (x : Handed) → bundle_max ≤ length spare → room_in limits size count used ≡ true
-      → receive_as D w b f at spare ≡ record { answer = Delivered (length x.octets) next x.origin; board = b₁; output = put spare 0 x.octets }
+      → receive_as D w b f at spare ≡ record { answer = Ok (Delivered (length x.octets) next x.origin); board = b₁; output = put spare 0 x.octets }
       → (after : Run) (hs : List Handed) → Fate b₁ next (count + 1) (used + length x.octets) after hs → Fate b at count used after (x ∷ hs)
   behind b b₁ at next count used spare x big free q after hs (through n l) =
       through n (λ hs' ns final k' place' s. hands_out b b₁ at next count used spare x big free q (hs ++ hs') ns final k' place' (l hs' ns final k' place' s))

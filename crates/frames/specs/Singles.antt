@@ -1,11 +1,11 @@
 -- The same frames by single receiving calls (document 02, E3: "State, pool and bundles equal those of single calls"), over the draft, the
 -- window size w, and whether there is room when so many bundles and so many octets of them are out.
-use Rattle.std.specs.Prelude.{◌≡◌, Bool, true, false, ◌&&◌, ◌⊎◌, List, [], ◌∷◌, ℕ, ◌+◌, ◌-◌, ◌≤◌, ◌<◌, length, take, ltb, leb}
+use Rattle.std.specs.Prelude.{◌≡◌, Bool, true, false, ◌&&◌, ◌⊎◌, List, [], ◌∷◌, ℕ, ◌+◌, ◌-◌, ◌≤◌, ◌<◌, length, take, ltb, leb, Err, Ok}
 use Rattle.pieces.specs.Pieces.{bundle_max}
 use Rattle.messages.specs.declared.Limits.{Limits}
-use Rattle.rows.specs.declared.Origin.{Origin}
+use Rattle.rows.specs.Origin.{Origin}
 use Rattle.receiver.specs.declared.Refusal.{Refusal}
-use Rattle.receiver.specs.declared.Answer.TheVariants.{Delivered, Finished, Refused}
+use Rattle.receiver.specs.declared.Answer.TheVariants.{Delivered, Finished}
 use Rattle.rows.specs.Message.{Draft, Board, Handed}
 use Rattle.receiver.specs.Receive.{refusal_number, receive_as}
 use Rattle.frames.specs.Frames.{Note}
@@ -29,18 +29,18 @@ module _ (D : Draft) (w : ℕ) (room : ℕ → ℕ → Bool) where
         → Singles k (f ∷ fs) b place count used [] [] b k place
     delivers : {k place count used k' place' : ℕ} {f : List ℕ} {fs : List (List ℕ)} {b after : Board} {hs : List Handed} {ns : List Note} (output : List ℕ) (size next : ℕ) (origin : Origin)
         → bundle_max ≤ length output → room count used ≡ true
-        → (receive_as D w b f place output).answer ≡ Delivered size next origin
+        → (receive_as D w b f place output).answer ≡ Ok (Delivered size next origin)
         → Singles k (f ∷ fs) (receive_as D w b f place output).board next (count + 1) (used + size) hs ns after k' place'
         → Singles k (f ∷ fs) b place count used (record { origin = origin; octets = take size (receive_as D w b f place output).output } ∷ hs) ns after k' place'
     -- at a frame's end no message follows, and no room is asked for: "at a frame's end the next frame"
     finishes : {k place count used k' place' : ℕ} {f : List ℕ} {fs : List (List ℕ)} {b after : Board} {hs : List Handed} {ns : List Note} (output : List ℕ)
         → bundle_max ≤ length output → (room count used ≡ true) ⊎ (place ≡ length f)
-        → (receive_as D w b f place output).answer ≡ Finished
+        → (receive_as D w b f place output).answer ≡ Ok Finished
         → Singles (k + 1) fs (receive_as D w b f place output).board 0 count used hs ns after k' place'
         → Singles k (f ∷ fs) b place count used hs ns after k' place'
     -- "noted with its place in the list and its refusal number, and the burst goes on"
     refuses : {k place count used k' place' : ℕ} {f : List ℕ} {fs : List (List ℕ)} {b after : Board} {hs : List Handed} {ns : List Note} (output : List ℕ) (q : Refusal)
         → bundle_max ≤ length output → room count used ≡ true
-        → (receive_as D w b f place output).answer ≡ Refused q
+        → (receive_as D w b f place output).answer ≡ Err q
         → Singles (k + 1) fs b 0 count used hs ns after k' place'
         → Singles k (f ∷ fs) b place count used hs (record { place = k; reason = refusal_number q } ∷ ns) after k' place'

@@ -3,7 +3,7 @@
 --     is-added     a message
 --     last-piece, next-piece     a piece with all that remains, one with less
 --     index-begun, index-first     the index of the next piece
-use Rattle.std.proofs.Common.{◌≡◌, ℕ, ◌+◌, ◌-◌, ◌<◌, ◌≤◌, Bool, true, false, cond, List, length, take, drop, refl, ap, ◌∙◌, arith, length-drop, length-take, take_all, ltb-false, le-leb}
+use Rattle.std.proofs.Common.{◌≡◌, ℕ, ◌+◌, ◌-◌, ◌<◌, ◌≤◌, Bool, true, false, cond, List, length, take, drop, refl, ap, ◌∙◌, arith, length-take, ltb-false, le-leb}
 use borrow.Author.Tests.{lt-leb}
 use Rattle.octets.specs.Octets.{put}
 use Rattle.wire.specs.declared.Version.{Version}
@@ -25,36 +25,28 @@ pub is-added : (s t : State) (r : Sent) (n : ℕ) (m : Message) (d d' : List ℕ
 unfolding added
 is-added s t r n m d d' e f g h = f d' ∙ rw (h, g, e)
 
--- t is the state with its number, i the piece's index, k whether it is marked, u the state that is left
-module _ (s : State) (b d d' : List ℕ) (t u : State) (i : ℕ) (k : Bool) (r : Sent) (n : ℕ) (e : t ≡ numbered s) (at : i ≡ piece_index s (length b))
-    (f : (x : List ℕ) → outcome r x ≡ advanced u (n + 12) x) where
+-- what remains of the bundle; t is the state with its number, i the piece's index, k whether it is marked, u the state that is left
+module _ (s : State) (b d d' rest : List ℕ) (t u : State) (i : ℕ) (k : Bool) (r : Sent) (cut : rest ≡ drop s.placed b) (e : t ≡ numbered s)
+    (at : i ≡ piece_index s (length b)) where
   abbrev v : Version
   v = s.version
 
-  pub last-piece : (m : ℕ) → m ≡ n → n ≡ length b - s.placed → n ≤ room s - 12 → k ≡ marks v s.begun true → u ≡ ended t
-      → d' ≡ put d s.fill (written v (piece k t.number i (take m (drop s.placed b)))) → outcome r d' ≡ place_piece s b d
+  pub last-piece : ((x : List ℕ) → outcome r x ≡ advanced u (length rest + 12) x) → length rest ≤ room s - 12 → k ≡ marks v s.begun true → u ≡ ended t
+      → d' ≡ put d s.fill (written v (piece k t.number i rest)) → outcome r d' ≡ place_piece s b d
   unfolding place_piece
-  last-piece m q l h marked g p =
-      let y : List ℕ = drop s.placed b in
-      let w : length y ≡ n = rw (length-drop s.placed b, l) in
-      rw (le-leb (length y) (room s - 12) (omega arith), ← at, ← marked)
-      (is-added u (ended (numbered s)) r (n + 12) (piece k (numbered s).number i y) d d' (rw (g, e)) f (rw (length-piece v k (numbered s).number i y) (omega arith))
-      (p ∙ rw (e, take_all m y (omega arith))))
+  last-piece f h marked g p =
+      rw (← cut, le-leb (length rest) (room s - 12) h, ← at, ← marked)
+      (is-added u (ended (numbered s)) r (length rest + 12) (piece k (numbered s).number i rest) d d' (rw (g, e)) f
+      (rw (length-piece v k (numbered s).number i rest) (omega arith)) (p ∙ rw e))
 
-  pub next-piece : (m j : ℕ) → m ≡ n → n ≡ room s - 12 → n < length b - s.placed → k ≡ marks v s.begun false → j ≡ next_index v i → u ≡ continued t (length b) n j
-      → d' ≡ put d s.fill (written v (piece k t.number i (take m (drop s.placed b)))) → outcome r d' ≡ place_piece s b d
+  pub next-piece : (n j : ℕ) → ((x : List ℕ) → outcome r x ≡ advanced u (n + 12) x) → n ≡ room s - 12 → n < length rest → k ≡ marks v s.begun false
+      → j ≡ next_index v i → u ≡ continued t (length b) n j → d' ≡ put d s.fill (written v (piece k t.number i (take n rest))) → outcome r d' ≡ place_piece s b d
   unfolding place_piece
-  next-piece m j q l h marked next g p =
-      let y : List ℕ = drop s.placed b in
-      let w : length y ≡ length b - s.placed = length-drop s.placed b in
-      let z : length (take n y) ≡ n = rw (length-take) (omega arith) in
-      rw (lt-leb (length y) (room s - 12) (omega arith), ← l, ← at, ← marked, ← next)
-      (is-added u (continued (numbered s) (length b) n j) r (n + 12) (piece k (numbered s).number i (take n y)) d d' (rw (g, e)) f
-      (rw (length-piece v k (numbered s).number i (take n y)) (omega arith)) (p ∙ rw (e, q)))
-
--- a transfer begun keeps its number
-pub is-numbered : (s : State) → s.begun ≡ true → s ≡ numbered s
-is-numbered s h = rw h
+  next-piece n j f l h marked next g p =
+      let z : length (take n rest) ≡ n = rw (length-take) (omega arith) in
+      rw (← cut, ← l, lt-leb (length rest) n h, ← at, ← marked, ← next)
+      (is-added u (continued (numbered s) (length b) n j) r (n + 12) (piece k (numbered s).number i (take n rest)) d d' (rw (g, e)) f
+      (rw (length-piece v k (numbered s).number i (take n rest)) (omega arith)) (p ∙ rw e))
 
 -- ---- the index of the next piece
 

@@ -1,10 +1,10 @@
 -- The answers of the sending calls (document 01, "Sending calls"), with the numbers of "Numbers of refusal".
-use Rattle.std.specs.Prelude.{ℕ, List}
+use Rattle.std.specs.Prelude.{ℕ, List, Result, Ok, Err}
 use Rattle.framing.specs.declared.State.{State}
 use Rattle.framing.specs.declared.Refusal.{Refusal}
 use Rattle.framing.specs.declared.Refusal.TheVariants.{Unsound, WrongBuffer, BundleSize, OtherLength, NoTransfer, FrameSize}
 use Rattle.framing.specs.declared.Answer.{Answer}
-use Rattle.framing.specs.declared.Answer.TheVariants.{Placed, PlacedReady, Ready, Nothing, Refused}
+use Rattle.framing.specs.declared.Answer.TheVariants.{Placed, PlacedReady, Ready, Nothing}
 use Rattle.framing.specs.declared.Sent.{Sent}
 
 -- An answer in document 01's words, a refusal by its number.
@@ -23,12 +23,12 @@ refusal_number OtherLength = 12
 refusal_number NoTransfer = 13
 refusal_number FrameSize = 14
 
-unfoldable pub reply : Answer → Reply
-reply Placed = placed
-reply PlacedReady = placed_and_ready
-reply Ready = ready
-reply Nothing = nothing
-reply (Refused r) = refused (refusal_number r)
+unfoldable pub reply : Result Answer Refusal → Reply
+reply (Ok Placed) = placed
+reply (Ok PlacedReady) = placed_and_ready
+reply (Ok Ready) = ready
+reply (Ok Nothing) = nothing
+reply (Err r) = refused (refusal_number r)
 
 -- All that a call fixes: its answer, the state and every octet of the frame buffer.
 pub record Outcome : Type 0 where

@@ -8,7 +8,8 @@ ghost use Rattle.framing.specs.Placing as Placing;
 
 use wire::Version;
 
-// A sender: frame size P, fill f, the next transfer number, the transfer begun if there is one, and the draft.
+// A sender: frame size P, fill f, the next transfer number, the transfer begun if there is one, and the draft. The transfer is no Option: a
+// state in which its entries do not fit `begun` is one that `sender::sound` refuses.
 #[derive(Clone, Copy)]
 pub struct State {
     pub size: usize,
@@ -23,7 +24,7 @@ pub struct State {
 }
 
 // Refusals 1 and 10 to 14 of document 01, in that order.
-#[derive(Clone, Copy)]
+#[derive(Clone, Copy, Debug, PartialEq, Eq)]
 pub enum Refusal {
     Unsound,
     WrongBuffer,
@@ -33,107 +34,91 @@ pub enum Refusal {
     FrameSize,
 }
 
-#[derive(Clone, Copy)]
+#[derive(Clone, Copy, Debug, PartialEq, Eq)]
 pub enum Answer {
     Placed,
     PlacedReady,
     Ready,
     Nothing,
-    Refused(Refusal),
 }
 
 // What a step returns, as place, cancel and flush do.
 #[derive(Clone, Copy)]
 pub struct Sent {
-    pub answer: Answer,
+    pub answer: Result<Answer, Refusal>,
     pub state: State,
 }
 
 // Document 01's number of a refusal.
-pub fn refusal_number(refusal: Refusal) -> u32
-    ensures { result ≡ refusal_number refusal }
-{
-    match refusal {
-        Refusal::Unsound => 1,
-        Refusal::WrongBuffer => 10,
-        Refusal::BundleSize => 11,
-        Refusal::OtherLength => 12,
-        Refusal::NoTransfer => 13,
-        Refusal::FrameSize => 14,
+impl From<Refusal> for u32 {
+    ghost from_gives = { λ refusal n. n ≡ refusal_number refusal };
+
+    fn from(refusal: Refusal) -> u32 {
+        match refusal {
+            Refusal::Unsound => 1,
+            Refusal::WrongBuffer => 10,
+            Refusal::BundleSize => 11,
+            Refusal::OtherLength => 12,
+            Refusal::NoTransfer => 13,
+            Refusal::FrameSize => 14,
+        }
     }
 }
 
-fn with_fill(s: State, fill: usize) -> State
-    ensures { result ≡ Placing.with_fill s fill }
-{
-    let version = s.version;
-    State {
-        size: s.size,
-        fill,
-        next: s.next,
-        begun: s.begun,
-        number: s.number,
-        length: s.length,
-        placed: s.placed,
-        index: s.index,
-        version,
+impl State {
+    fn ended(self) -> State
+        ensures { result ≡ Placing.ended self }
+    {
+        State {
+            begun: false,
+            number: 0,
+            length: 0,
+            placed: 0,
+            index: 0,
+            ..self
+        }
     }
-}
 
-fn ended(s: State) -> State
-    ensures { result ≡ Placing.ended s }
-{
-    let version = s.version;
-    State {
-        size: s.size,
-        fill: s.fill,
-        next: s.next,
-        begun: false,
-        number: 0,
-        length: 0,
-        placed: 0,
-        index: 0,
-        version,
+    // The transfer begun, or one that takes the next number.
+    fn numbered(self) -> State
+        ensures { result ≡ Placing.numbered self }
+    {
+        if self.begun {
+            return self;
+        }
+        State {
+            next: self.next.wrapping_add(1),
+            begun: true,
+            number: self.next,
+            ..self
+        }
     }
-}
 
-// The transfer begun, or one that takes the next number.
-fn numbered(s: State) -> State
-    ensures { result ≡ Placing.numbered s }
-{
-    if s.begun {
-        return s;
+    // n octets more of a bundle of a length, and the index of the next piece.
+    fn continued(self, length: usize, n: usize, index: u32) -> State
+        requires { self.placed + n ≤ Placing.bundle_max }
+        ensures { result ≡ Placing.continued self length n index }
+    {
+        State {
+            begun: true,
+            length,
+            placed: self.placed + n,
+            index,
+            ..self
+        }
     }
-    let version = s.version;
-    State {
-        size: s.size,
-        fill: s.fill,
-        next: std::num::wrapping_add_u32(s.next, 1),
-        begun: true,
-        number: s.next,
-        length: s.length,
-        placed: s.placed,
-        index: s.index,
-        version,
-    }
-}
 
-// n octets more of a bundle of a length, and the index of the next piece.
-fn continued(s: State, length: usize, n: usize, index: u32) -> State
-    requires { s.placed + n ≤ Placing.bundle_max }
-    ensures { result ≡ Placing.continued s length n index }
-{
-    let version = s.version;
-    State {
-        size: s.size,
-        fill: s.fill,
-        next: s.next,
-        begun: true,
-        number: s.number,
-        length,
-        placed: s.placed + n,
-        index,
-        version,
+    // The index of the next piece of a bundle.
+    fn piece_index(self, length: usize) -> u32
+        requires { (self.fill + 13 ≤ self.size) × (self.size ≤ 2048) × (self.size < length + 4) × (length ≤ Placing.bundle_max) × (self.index ≤ 64) }
+        ensures { (result ≡ Placing.piece_index self length) × (result ≤ 8192) }
+    {
+        match self.version {
+            Version::Draft00 if !self.begun => {
+                start_index(self.size, self.size - self.fill - 12, length)
+            }
+            _ => self.index,
+        }
     }
 }
 
@@ -142,34 +127,7 @@ fn start_index(size: usize, most: usize, length: usize) -> u32
     requires { (13 ≤ size) × (size ≤ 2048) × (most ≤ length) × (length ≤ Placing.bundle_max) }
     ensures { (result ≡ Placing.rounded_up (length - most) (size - 12)) × (result ≤ 8192) }
 {
-    let each = size - 12;
-    let pieces = (length - most + (each - 1)) / each;
-    pieces as u32
-}
-
-// The index of the next piece of a bundle.
-fn piece_index(s: State, length: usize) -> u32
-    requires { (s.fill + 13 ≤ s.size) × (s.size ≤ 2048) × (s.size < length + 4) × (length ≤ Placing.bundle_max) × (s.index ≤ 64) }
-    ensures { (result ≡ Placing.piece_index s length) × (result ≤ 8192) }
-{
-    if s.begun {
-        return s.index;
-    }
-    let version = s.version;
-    match version {
-        Version::Draft00 => start_index(s.size, s.size - s.fill - 12, length),
-        Version::Draft02 => s.index,
-    }
-}
-
-// The index below, if there is one.
-fn below(index: u32) -> u32
-    ensures { result ≡ index - 1 }
-{
-    if index == 0 {
-        return 0;
-    }
-    index - 1
+    (length - most).div_ceil(size - 12) as u32
 }
 
 fn next_index(version: Version, index: u32) -> u32
@@ -177,7 +135,7 @@ fn next_index(version: Version, index: u32) -> u32
     ensures { result ≡ Placing.next_index version index }
 {
     match version {
-        Version::Draft00 => below(index),
+        Version::Draft00 => index.saturating_sub(1),
         Version::Draft02 => index + 1,
     }
 }
@@ -200,13 +158,13 @@ fn advanced(s: State, n: usize) -> Sent
     let fill = s.fill + n;
     if fill == s.size {
         return Sent {
-            answer: Answer::PlacedReady,
-            state: with_fill(s, 0),
+            answer: Ok(Answer::PlacedReady),
+            state: State { fill: 0, ..s },
         };
     }
     Sent {
-        answer: Answer::Placed,
-        state: with_fill(s, fill),
+        answer: Ok(Answer::Placed),
+        state: State { fill, ..s },
     }
 }
 
@@ -216,8 +174,8 @@ pub fn close(s: State, frame: &mut [u8]) -> Sent
 {
     writing::put_padding(frame, s.fill);
     Sent {
-        answer: Answer::Ready,
-        state: with_fill(s, 0),
+        answer: Ok(Answer::Ready),
+        state: State { fill: 0, ..s },
     }
 }
 
@@ -227,38 +185,27 @@ fn place_piece(s: State, bundle: &[u8], frame: &mut [u8]) -> Sent
     requires placed_in_bounds { (s.placed < length bundle.now) × (length bundle.now ≤ Placing.bundle_max) × (s.index ≤ 64) }
     ensures { outcome result frame.new ≡ Placing.place_piece s bundle.now frame.old }
 {
-    let version = s.version;
-    let at = s.placed;
-    let left = bundle.len() - at;
+    let rest = &bundle[s.placed..];
     let most = s.size - s.fill - 12;
-    let t = numbered(s);
-    let index = piece_index(s, bundle.len());
-    if left <= most {
-        writing::put_piece(
-            version,
-            frame,
-            s.fill,
-            marks(version, s.begun, true),
-            t.number,
-            index,
-            &bundle[at..],
-        );
-        return advanced(ended(t), left + 12);
+    let t = s.numbered();
+    let index = s.piece_index(bundle.len());
+    if rest.len() <= most {
+        let ending = marks(s.version, s.begun, true);
+        writing::put_piece(s.version, frame, s.fill, ending, t.number, index, rest);
+        return advanced(t.ended(), rest.len() + 12);
     }
-    let end = at + most;
+    let ending = marks(s.version, s.begun, false);
     writing::put_piece(
-        version,
+        s.version,
         frame,
         s.fill,
-        marks(version, s.begun, false),
+        ending,
         t.number,
         index,
-        &bundle[at..end],
+        &rest[..most],
     );
-    advanced(
-        continued(t, bundle.len(), most, next_index(version, index)),
-        most + 12,
-    )
+    let next = next_index(s.version, index);
+    advanced(t.continued(bundle.len(), most, next), most + 12)
 }
 
 fn tight(room: usize) -> bool
@@ -274,17 +221,14 @@ pub fn placing(s: State, bundle: &[u8], frame: &mut [u8]) -> Sent
 {
     let n = bundle.len() + 4;
     let room = s.size - s.fill;
-    if n <= s.size {
-        if n <= room {
-            writing::put_bundle(frame, s.fill, bundle);
-            return advanced(s, n);
-        }
-        return close(s, frame);
+    if n <= room {
+        writing::put_bundle(frame, s.fill, bundle);
+        advanced(s, n)
+    } else if n <= s.size || tight(room) {
+        close(s, frame)
+    } else {
+        place_piece(s, bundle, frame)
     }
-    if tight(room) {
-        return close(s, frame);
-    }
-    place_piece(s, bundle, frame)
 }
 
 // A cancel for the transfer begun, which ends.
@@ -293,5 +237,5 @@ pub fn cancelling(s: State, frame: &mut [u8]) -> Sent
     ensures { outcome result frame.new ≡ Placing.added (Placing.ended s) (Message.cancel s.number) frame.old }
 {
     writing::put_cancel(frame, s.fill, s.number);
-    advanced(ended(s), 8)
+    advanced(s.ended(), 8)
 }

@@ -1,17 +1,17 @@
 -- The receiver's state as octets.
 use mathlib.Core.Bool.{Bool, ◌&&◌, and-true, and_assoc}
 use mathlib.Core.List.{List, [], ◌∷◌, ◌++◌}
-use mathlib.Core.Path.{◌≡◌, refl, sym, ap, ◌∙◌}
-use Prim.Native.Nat.{ℕ, zero, suc, ◌+◌, ◌-◌, ◌*◌, ◌%◌, ◌≤◌, ◌<◌}
-use native.Mathlib.Nat.{add-zero, add-sub_cancel_left}
+use mathlib.Core.Path.{◌≡◌, refl, sym, ◌∙◌}
+use Prim.Native.Nat.{ℕ, zero, suc, ◌+◌, ◌*◌, ◌%◌, ◌≤◌, ◌<◌}
+use native.Mathlib.Nat.{add-zero}
 use native.Mathlib.Numerals.{add-one}
 use native.Mathlib.Omega.{arith}
 use lib.Dec.{leb, eqb}
-use lib.ListN.{length, get_or, take, drop, set, length-append, length-take, length-drop}
-use lib.Seq.{take_all, drop-drop, get_or-drop}
+use lib.ListN.{length, get_or, take, drop, set, length-append}
+use lib.Seq.{drop-drop, get_or-drop}
 use Rattle.octets.specs.Octets.{be32, pairs, spread, put}
 use Rattle.octets.proofs.Put.{put_whole, put-put}
-use Rattle.octets.proofs.Series.{read-turn, read-end, write-turn, write-end}
+use Rattle.octets.proofs.Series.{read-turn, read-end, write-turn}
 use Rattle.octets.proofs.Pairs.{length-spread}
 use Rattle.row.specs.declared.Phase.{Phase}
 use Rattle.row.specs.declared.Row.{Row}
@@ -36,10 +36,6 @@ are_rows_turn good k xs e =
     rw (add-one k, are_rows_last k (drop 8 xs), drop-drop (k * row_size) 8 xs, get_or-drop (8 + k * row_size) xs 0 0, get_or-drop (8 + k * row_size) xs 1 0, add-zero (8 + k * row_size), e)
 
 -- ---- from octets
-
--- a part that fills an array
-pub part-copied : (d xs : List ℕ) (at n : ℕ) → length d ≡ n → at + n ≤ length xs → put d 0 (take (at + n - at) (drop at xs)) ≡ take n (drop at xs)
-part-copied d xs at n l h = rw (add-sub_cancel_left at n) (put_whole d (take n (drop at xs)) (rw (length-take, length-drop) (omega arith)))
 
 -- a row from its parts
 pub row_read : (xs : List ℕ) (at : ℕ) (p : Phase) (h : ℕ) (is ls : List ℕ) → p ≡ phase_of (get_or xs at 0) → h ≡ get_or xs (at + 3) 0
@@ -81,14 +77,6 @@ pub rows_image-turn : (d d' d'' : List ℕ) (items : List Row) (at k : ℕ) (z :
     → (d'' ≡ put d at (rows_image (take (k + 1) items))) × (length (rows_image (take (k + 1) items)) ≡ (k + 1) * row_size)
 unfolding rows_image
 rows_image-turn = write-turn row_image rows_image refl (λ x xs. refl) row_size
-
--- all rows are written when k is their number
-pub length_rows_image : (items : List Row) (k n : ℕ) → length (rows_image (take k items)) ≡ k * row_size → length items ≡ n → k ≡ n → length (rows_image items) ≡ n * row_size
-length_rows_image items k n e l h = ap (λ (is : List Row). length (rows_image is)) (sym (take_all k items (omega arith))) ∙ e ∙ ap (λ (m : ℕ). m * row_size) h
-
-pub rows_image-end : (d d' : List ℕ) (items : List Row) (at k : ℕ) → d' ≡ put d at (rows_image (take k items)) → length items ≤ k → d' ≡ put d at (rows_image items)
-unfolding rows_image
-rows_image-end = write-end row_image rows_image refl (λ x xs. refl)
 
 -- ---- the state
 

@@ -1,9 +1,10 @@
 -- A sender's state that was written to an image reads back, so a host can keep the image over a restart. Sound states fit an image.
 use mathlib.Core.Bool.{true, false}
 use mathlib.Core.Logic.{⊎_elim}
-use mathlib.Core.List.{[]}
+use mathlib.Core.List.{[], List}
+use Rattle.std.specs.Prelude.{Some, None}
 use mathlib.Core.Path.{◌≡◌}
-use Prim.Native.Nat.{◌<◌, ◌^◌}
+use Prim.Native.Nat.{ℕ, ◌<◌, ◌^◌}
 use native.Mathlib.Omega.{arith}
 use Rattle.octets.specs.Octets.{be16, be32}
 use Rattle.octets.proofs.Flags.{bool}
@@ -11,7 +12,8 @@ use Rattle.octets.proofs.Numbers.{number-be32, number16-be16}
 use Rattle.framing.specs.declared.State.{State}
 use Rattle.sender.specs.Sound.{sound}
 use Rattle.sender.proofs.Facts.{in-range, in-transfer, at_rest, index-few}
-use Rattle.images.specs.Sender.{is_image, state_of, image_of}
+use Rattle.images.proofs.Decoding.{some_read, none_read}
+use Rattle.images.specs.Sender.{is_image, state_of, read, image_of}
 use Rattle.images.proofs.ReceiverImages.{flag-back, flag-low, version_back, version_low}
 
 -- a state whose numbers fit their octets
@@ -58,3 +60,12 @@ sound_state_fits s e n t = ⊎_elim busy idle (bool s.begun)
 
     idle : s.begun ≡ false → StateFits s
     idle b = let f = at_rest s e b in fits (omega arith) (omega arith) (omega arith)
+
+-- what reading an image says of it
+pub read-some : (xs : List ℕ) (s : State) → Some s ≡ read xs → (is_image xs ≡ true) × (state_of xs ≡ s)
+unfolding read
+read-some xs = some_read (is_image xs)
+
+pub read-none : (xs : List ℕ) → None ≡ read xs → is_image xs ≡ false
+unfolding read
+read-none xs = none_read (is_image xs) (state_of xs)

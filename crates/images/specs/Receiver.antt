@@ -1,7 +1,7 @@
 -- The receiver's state as an image of 3,144 octets.
 -- Octet 0 of the image is 1 if G is present, 1 is the window, 2 is 1 for draft 00, 3 is zero, 4 to 7 are G; then 196 octets for each row: phase,
 -- whether the final index is known, the final index, how many pieces are held, 64 indexes, 64 lengths of two octets. Numbers are big-endian.
-use Rattle.std.specs.Prelude.{Bool, true, cond, ◌&&◌, List, [], ◌∷◌, ◌++◌, ℕ, zero, suc, ◌+◌, ◌*◌, ◌/◌, ◌%◌, get_or, take, drop, eqb, leb}
+use Rattle.std.specs.Prelude.{Bool, true, cond, ◌&&◌, List, [], ◌∷◌, ◌++◌, ℕ, zero, suc, ◌%◌, get_or, take, drop, eqb, leb}
 use Rattle.octets.specs.Octets.{number, be32, pairs, spread}
 use Rattle.wire.specs.declared.Version.{Version}
 use Rattle.wire.specs.declared.Version.TheVariants.{Draft00, Draft02}
@@ -29,10 +29,6 @@ version_of n = cond (eqb n 1) Draft00 Draft02
 
 unfoldable pub is_row : List ℕ → Bool
 is_row xs = leb (get_or xs 0 0) 4 && leb (get_or xs 1 0) 1
-
--- the two octets of a number exchanged
-abbrev pub exchange : ℕ → ℕ
-exchange n = n % 256 * 256 + n / 256
 
 unfoldable pub row_of : List ℕ → Row
 row_of xs =

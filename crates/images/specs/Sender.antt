@@ -1,7 +1,7 @@
 -- The sender's state as an image of 24 octets.
 -- The image: frame size (2 octets), fill (2), next number (4), whether a transfer is begun (1), the draft (1), two zeros, its number (4),
 -- its bundle's length (2), octets placed (2), next index (4). Numbers are big-endian.
-use Rattle.std.specs.Prelude.{Bool, ◌&&◌, List, [], ◌∷◌, ◌++◌, ℕ, get_or, drop, eqb, leb}
+use Rattle.std.specs.Prelude.{Bool, ◌&&◌, cond, Option, Some, None, List, [], ◌∷◌, ◌++◌, ℕ, get_or, drop, eqb, leb}
 use Rattle.octets.specs.Octets.{number, number16, be32, be16}
 use Rattle.framing.specs.declared.State.{State}
 use Rattle.images.specs.Receiver.{flag, version_of, version_code}
@@ -26,6 +26,10 @@ state_of xs =
       index = number (drop 20 xs);
       version = version_of (get_or xs 9 0);
     }
+
+-- the state that octets are the image of, if they are one
+unfoldable pub read : List ℕ → Option State
+read xs = cond (is_image xs) (Some (state_of xs)) None
 
 unfoldable pub image_of : State → List ℕ
 image_of s =

@@ -1,35 +1,35 @@
 // The receiver's state as an image.
-ghost use Rattle.std.specs.Prelude.{◌≡◌, map, ◌+◌, ◌*◌, ◌≤◌, length, take, drop};
+ghost use Rattle.std.specs.Prelude.{◌≡◌, ◌+◌, ◌*◌, ◌≤◌, length, take, drop};
 ghost use Rattle.octets.specs.Octets.{pairs, put};
 ghost use Rattle.rows.specs.State.{row_max};
 ghost use Rattle.images.specs.Receiver as Spec;
 ghost use Rattle.images.specs.Receiver.{row_size};
 
+use pieces::INDEX_COUNT;
 use row::{Phase, Row};
 use rows::{Settings, State};
 use wire::Version;
 
-// The octets of a row, and where the first row starts.
+// The octets of an image and of a row in it, where the first row starts, and how many rows there are.
+pub const IMAGE_SIZE: usize = 3144;
+
 const ROW_SIZE: usize = 196;
 
 const ROWS: usize = 8;
 
+const ROW_COUNT: usize = 16;
+
+// Codes of an image alone, so no From or TryFrom of the types, which know no image.
 fn phase_of(code: u8) -> Phase
     ensures { result ≡ Spec.phase_of code }
 {
-    if code == 1 {
-        return Phase::Open;
+    match code {
+        1 => Phase::Open,
+        2 => Phase::Done,
+        3 => Phase::Cancelled,
+        4 => Phase::Abandoned,
+        _ => Phase::Free,
     }
-    if code == 2 {
-        return Phase::Done;
-    }
-    if code == 3 {
-        return Phase::Cancelled;
-    }
-    if code == 4 {
-        return Phase::Abandoned;
-    }
-    Phase::Free
 }
 
 fn phase_code(phase: Phase) -> u8
@@ -47,10 +47,10 @@ fn phase_code(phase: Phase) -> u8
 pub fn version_of(code: u8) -> Version
     ensures { result ≡ Spec.version_of code }
 {
-    if code == 1 {
-        return Version::Draft00;
+    match code {
+        1 => Version::Draft00,
+        _ => Version::Draft02,
     }
-    Version::Draft02
 }
 
 pub fn version_code(version: Version) -> u8
@@ -62,65 +62,24 @@ pub fn version_code(version: Version) -> u8
     }
 }
 
-pub fn flag(b: bool) -> u8
-    ensures { result ≡ Spec.flag b }
-{
-    if b {
-        return 1;
-    }
-    0
-}
-
-fn indexes_of(image: &[u8], at: usize) -> [u8; 64]
+fn indexes_of(image: &[u8], at: usize) -> [u8; INDEX_COUNT]
     requires { at + 64 ≤ length image.now }
     ensures { result ≡ take 64 (drop at image.now) }
 {
-    let end = at + 64;
-    let mut indexes = [0u8; 64];
-    octets::copy_into(&mut indexes, 0, &image[at..end]);
+    let mut indexes = [0; INDEX_COUNT];
+    indexes.copy_from_slice(&image[at..at + INDEX_COUNT]);
     indexes
 }
 
-// Numbers of two octets, low octet first: the order in which this machine reads two octets at once.
-fn pairs_of(image: &[u8], at: usize) -> [u16; 64]
-    requires { at + 128 ≤ length image.now }
-    ensures { map Spec.exchange result ≡ pairs 64 (drop at image.now) }
-{
-    let mut pairs = [0u16; 64];
-    let mut j = 0;
-    while j < 64 {
-        let from = at + j * 2;
-        pairs[j] = octets::octet16(image[from + 1]) * 256 + octets::octet16(image[from]);
-        j += 1;
-    }
-    pairs
-}
-
-// The two octets of a number exchanged.
-fn exchange(x: u16) -> u16
-    ensures { result ≡ Spec.exchange x }
-{
-    x % 256 * 256 + x / 256
-}
-
-fn exchanged(pairs: [u16; 64]) -> [u16; 64]
-    ensures { result ≡ map Spec.exchange pairs }
-{
-    let mut next = pairs;
-    let mut j = 0;
-    while j < 64 {
-        next[j] = exchange(next[j]);
-        j += 1;
-    }
-    next
-}
-
-// The compiler makes a copy and a vector loop of this; a single loop it reads octet by octet.
-fn lengths_of(image: &[u8], at: usize) -> [u16; 64]
+fn lengths_of(image: &[u8], at: usize) -> [u16; INDEX_COUNT]
     requires { at + 128 ≤ length image.now }
     ensures { result ≡ pairs 64 (drop at image.now) }
 {
-    exchanged(pairs_of(image, at))
+    let mut lengths = [0; INDEX_COUNT];
+    for (j, length) in lengths.iter_mut().enumerate() {
+        *length = octets::number16_at(image, at + j * 2);
+    }
+    lengths
 }
 
 // The row whose octets start at `at`.
@@ -132,51 +91,44 @@ fn row_of(image: &[u8], at: usize) -> Row
         phase: phase_of(image[at]),
         known: image[at + 1] == 1,
         last: image[at + 2],
-        held: octets::octet_size(image[at + 3]),
+        held: image[at + 3] as usize,
         indexes: indexes_of(image, at + 4),
         lengths: lengths_of(image, at + 68),
     }
 }
 
-fn are_rows(image: &[u8; 3144]) -> bool
+fn are_rows(image: &[u8; IMAGE_SIZE]) -> bool
     ensures { result ≡ Spec.are_rows row_max (drop 8 image.now) }
 {
     let mut good = true;
-    let mut k = 0;
-    while k < 16 {
+    for k in 0..ROW_COUNT {
         let at = ROWS + k * ROW_SIZE;
-        good = good & ((image[at] <= 4) & (image[at + 1] <= 1));
-        k += 1;
+        good &= image[at] <= 4 && image[at + 1] <= 1;
     }
     good
 }
 
-pub fn is_image(image: &[u8; 3144]) -> bool
+pub fn is_image(image: &[u8; IMAGE_SIZE]) -> bool
     ensures { result ≡ Spec.is_image image.now }
 {
-    let head = (image[0] <= 1) & (image[2] <= 1) & (image[3] == 0);
-    head & are_rows(image)
+    image[0] <= 1 && image[2] <= 1 && image[3] == 0 && are_rows(image)
 }
 
 // The rows are stored where they stay: an array of them that goes by value is copied.
-pub fn state_of(image: &[u8; 3144]) -> State
+pub fn state_of(image: &[u8; IMAGE_SIZE]) -> State
     ensures { result ≡ Spec.state_of image.now }
 {
-    let free = row::empty_row(Phase::Free);
-    let version = version_of(image[2]);
     let mut state = State {
         present: image[0] == 1,
         greatest: octets::number_at(image, 4),
-        rows: [free; 16],
+        rows: [row::empty_row(Phase::Free); ROW_COUNT],
         settings: Settings {
-            version,
-            window: octets::octet(image[1]),
+            version: version_of(image[2]),
+            window: image[1] as u32,
         },
     };
-    let mut k = 0;
-    while k < 16 {
-        state.rows[k] = row_of(image, ROWS + k * ROW_SIZE);
-        k += 1;
+    for (k, row) in state.rows.iter_mut().enumerate() {
+        *row = row_of(image, ROWS + k * ROW_SIZE);
     }
     state
 }
@@ -185,36 +137,29 @@ fn put_row(image: &mut [u8], at: usize, row: Row)
     requires { at + row_size ≤ length image.old }
     ensures { (image.new ≡ put image.old at (Spec.row_image row)) × (length (Spec.row_image row) ≡ row_size) }
 {
-    let phase = row.phase;
-    let code = phase_code(phase);
-    let known = flag(row.known);
+    let code = phase_code(row.phase);
+    let known = u8::from(row.known);
     let held = (row.held % 256) as u8;
-    octets::put_four(image, at, [code, known, row.last, held]);
-    octets::copy_into(image, at + 4, &row.indexes[..]);
-    octets::put_pairs(image, at + 68, &row.lengths[..]);
+    octets::put_array(image, at, [code, known, row.last, held]);
+    octets::copy_into(image, at + 4, &row.indexes);
+    octets::put_pairs(image, at + 68, &row.lengths);
 }
 
-fn put_rows(image: &mut [u8; 3144], rows: [Row; 16])
+fn put_rows(image: &mut [u8; IMAGE_SIZE], rows: [Row; ROW_COUNT])
     ensures { (image.new ≡ put image.old 8 (Spec.rows_image rows)) × (length (Spec.rows_image rows) ≡ row_max * row_size) }
 {
-    let mut k = 0;
-    while k < 16 {
-        let row = rows[k];
-        put_row(image, ROWS + k * ROW_SIZE, row);
-        k += 1;
+    for (k, row) in rows.iter().enumerate() {
+        put_row(image, ROWS + k * ROW_SIZE, *row);
     }
 }
 
-pub fn put_state(image: &mut [u8; 3144], state: State)
+pub fn put_state(image: &mut [u8; IMAGE_SIZE], state: State)
     ensures { image.new ≡ Spec.image_of state }
 {
-    let present = flag(state.present);
-    let settings = state.settings;
-    let version = settings.version;
-    let draft = version_code(version);
-    let window = (settings.window % 256) as u8;
-    let rows = state.rows;
-    octets::put_four(image, 0, [present, window, draft, 0]);
+    let present = u8::from(state.present);
+    let window = (state.settings.window % 256) as u8;
+    let draft = version_code(state.settings.version);
+    octets::put_array(image, 0, [present, window, draft, 0]);
     octets::put_number(image, 4, state.greatest);
-    put_rows(image, rows);
+    put_rows(image, state.rows);
 }

@@ -3,14 +3,14 @@
 // then comes 4,294,967,290.
 #![tactic(auto)]
 
-use receiver::{Answer, Origin, Refusal, State};
+use receiver::{Answer, Refusal, State};
 use std::io;
 use wire::Version;
 
-fn show_origin(rt: &impl Print, origin: Origin) -> io::Result<()> {
+fn show_origin(rt: &impl Print, origin: Option<u32>) -> io::Result<()> {
     match origin {
-        Origin::Whole => print!(rt; " unnumbered"),
-        Origin::Transfer(number) => print!(rt; " transfer {number}"),
+        None => print!(rt; " unnumbered"),
+        Some(number) => print!(rt; " transfer {number}"),
     }
 }
 
@@ -27,28 +27,29 @@ fn show_octets(rt: &impl Print, octets: &[u8], length: usize) -> io::Result<()> 
 }
 
 fn show_refusal(rt: &impl Print, refusal: Refusal) -> io::Result<()> {
-    let number = receiver::refusal_number(refusal);
-    print!(rt; " refused {number}")?;
+    print!(rt; " refused {}", u32::from(refusal))?;
     if let Refusal::Malformed(_, at) = refusal {
         print!(rt; " at {at}")?;
     }
     Ok(())
 }
 
-fn show(rt: &impl Print, answer: Answer, output: &[u8]) -> io::Result<()> {
+fn show(rt: &impl Print, answer: Result<Answer, Refusal>, output: &[u8]) -> io::Result<()> {
     match answer {
-        Answer::Delivered {
-            length,
-            next,
-            origin,
-        } => {
+        Ok(
+            Answer::Delivered {
+                length,
+                next,
+                origin,
+            },
+        ) => {
             print!(rt; " bundle of {length}")?;
             show_origin(rt, origin)?;
             print!(rt; " next {next}:")?;
             show_octets(rt, output, length)?;
         }
-        Answer::Finished => print!(rt; " finished")?,
-        Answer::Refused(refusal) => show_refusal(rt, refusal)?,
+        Ok(Answer::Finished) => print!(rt; " finished")?,
+        Err(refusal) => show_refusal(rt, refusal)?,
     }
     println!(rt)
 }
@@ -100,8 +101,9 @@ fn main(rt: HostRuntime) -> io::Result<()> {
     take(&rt, "M10", fresh, b"\x02\x80\x00\x01\x02")?;
     take(&rt, "M11", fresh, b"\x05\x00\x00\x03\x00\x00\x00")?;
     take(&rt, "M12", fresh, b"\x00\x02\x00\x00\x00")?;
-    let sixteen = receiver::start_as(Version::Draft02, 16);
-    let wide = sixteen.state;
+    let Ok(wide) = receiver::start_as(Version::Draft02, 16) else {
+        return Ok(());
+    };
     let mut pool = [0u8; 65536];
     behind(&rt, wide, &mut pool)?;
     let mut small = [0u8; 32768];

@@ -9,19 +9,18 @@ use native.Mathlib.Omega.{arith}
 use lib.Dec.{ltb, leb}
 use lib.ListN.{length, get_or, take, drop, set, length-set, length-take, length-drop}
 use borrow.Author.Tests.{ltb-true, ltb-false, leb-true}
+use Rattle.std.proofs.Common.{None, Some, Err, Ok}
 use Rattle.octets.proofs.Flags.{bool, both}
 use Rattle.octets.proofs.Put.{length-put}
 use Rattle.wire.specs.Frame.{Item, Scan, row, items, scanned, from, checked}
-use Rattle.wire.specs.declared.Checked.TheVariants.{Accepted}
 use Rattle.wire.specs.declared.Version.{Version}
 use Rattle.wire.specs.Layout.{read, message, fitting}
 use Rattle.wire.specs.Message.{answer}
 use Rattle.wire.specs.declared.Fault.{Fault}
-use Rattle.wire.specs.declared.Reading.TheVariants.{Good, Bad}
 use Rattle.wire.specs.declared.Kind.{Kind}
 use Rattle.wire.specs.declared.Kind.TheVariants.{Skipped}
 use Rattle.wire.specs.declared.Span.{Span}
-use Rattle.wire.proofs.Frames.{scan_at}
+use Rattle.wire.proofs.Scanning.{scan_at}
 use Rattle.wire.proofs.Items.{Next}
 use Rattle.wire.proofs.Items as Items
 use Rattle.wire.proofs.Places.{taken, resume}
@@ -32,8 +31,7 @@ use Rattle.pieces.specs.Pieces.{bundle_max}
 use Rattle.row.specs.Row.{empty_row, sound_row}
 use Rattle.reassembly.specs.Rules.{delivery_of}
 use Rattle.reassembly.specs.Rules as Rules
-use Rattle.reassembly.specs.declared.Delivery.{Delivery}
-use Rattle.reassembly.specs.declared.Delivery.TheVariants.{Nothing, Bundle}
+use Rattle.reassembly.specs.Delivery.{Delivery}
 use Rattle.row.specs.declared.Phase.TheVariants.{Free}
 use Rattle.row.specs.declared.Row.{Row}
 use Rattle.reassembly.specs.declared.Taken.{Taken}
@@ -43,8 +41,7 @@ use Rattle.rows.proofs.Rows.{sound-window}
 use Rattle.rows.specs.Message.{order_of, Board, Outcome, handed_of, cell_at, step, messages_from}
 use Rattle.messages.specs.Run.{Run, admits, row_step, written_at, Lands, size, listed, numbered, progressed, advanced, roomy, run, run_from, Able}
 use Rattle.rows.specs.Visit.{visit_of}
-use Rattle.rows.specs.declared.Origin.{Origin}
-use Rattle.rows.specs.declared.Origin.TheVariants.{Whole}
+use Rattle.rows.specs.Origin.{Origin}
 use Rattle.messages.specs.declared.Limits.{Limits}
 use Rattle.messages.specs.declared.Progress.{Progress}
 use Rattle.rows.specs.declared.Visit.{Visit}
@@ -82,7 +79,7 @@ pub record Turn (limits : Limits) (frame : List ℕ) (p₀ p : Run) : Type 0 whe
   pub going : Going limits frame p₀ p
   pub test : goes_on limits frame p ≡ true
   pub span : Span
-  pub told : answer p.progress.next (read (version_of p₀) (drop p.progress.next frame)) ≡ Good span
+  pub told : answer p.progress.next (read (version_of p₀) (drop p.progress.next frame)) ≡ Ok span
 
 -- a bundle goes behind those that are out
 advanced-by : (p : Run) (b : Board) (next : ℕ) (origin : Origin) (o : Option (List ℕ))
@@ -100,8 +97,8 @@ advanced-by p b next origin (some x) = refl
 
 pub progressed-next : (p : Progress) (d : Delivery) (next : ℕ) (origin : Origin) → (progressed p d next origin).next ≡ next
 unfolding progressed
-progressed-next p Nothing next origin = refl
-progressed-next p (Bundle n) next origin = refl
+progressed-next p None next origin = refl
+progressed-next p (Some n) next origin = refl
 
 -- the output keeps its length, and the octets used stay within it
 written-length : (used : ℕ) (o : Option (List ℕ)) (output : List ℕ) → ((x : List ℕ) → o ≡ some x → used + length x ≤ length output) → length (written_at used o output) ≡ length output
@@ -115,12 +112,12 @@ progressed_used p none next origin n h fits = h
 progressed_used p (some x) next origin n h fits = fits x refl
 
 listed-length : (k : ℕ) (d : Delivery) (lengths : List ℕ) → length (listed k d lengths) ≡ length lengths
-listed-length k Nothing lengths = refl
-listed-length k (Bundle n) lengths = length-set lengths k n
+listed-length k None lengths = refl
+listed-length k (Some n) lengths = length-set lengths k n
 
 numbered-length : (k : ℕ) (d : Delivery) (origin : Origin) (numbers : List ℕ) → length (numbered k d origin numbers) ≡ length numbers
-numbered-length k Nothing origin numbers = refl
-numbered-length k (Bundle n) origin numbers = length-set numbers k _
+numbered-length k None origin numbers = refl
+numbered-length k (Some n) origin numbers = length-set numbers k _
 
 size_fits : (o : Option (List ℕ)) (n : ℕ) → ((x : List ℕ) → o ≡ some x → length x ≤ n) → size (delivery_of o) ≤ n
 unfolding delivery_of
@@ -195,7 +192,7 @@ module _ {limits : Limits} {frame : List ℕ} {p₀ p : Run} (T : Turn limits fr
   follows = Items.next u frame at (left u frame p) G.here at< m T.told
 
   -- a message that is passed over
-  pub passed : m.kind ≡ Skipped → Going limits frame p₀ (record { board = b; output = p.output; lengths = p.lengths; numbers = p.numbers; progress = progressed p.progress Nothing m.end Whole })
+  pub passed : m.kind ≡ Skipped → Going limits frame p₀ (record { board = b; output = p.output; lengths = p.lengths; numbers = p.numbers; progress = progressed p.progress None m.end None })
   unfolding run advanced progressed
   passed e =
       let r = items-row follows.rest follows.then in
@@ -311,7 +308,7 @@ module _ {limits : Limits} {frame : List ℕ} {p₀ p : Run} (T : Turn limits fr
     turned x e = subst Turned (sym e) turned_here
 
 -- the loop begins
-pub begins : (limits : Limits) (frame : List ℕ) (p : Run) → Able p.board.state p.board.pool p.output p.progress → checked (read (version_of p)) frame p.progress.next ≡ Accepted → width_of p ≤ length p.board.state.rows → p.board.state.greatest < 2 ^ 32 → Going limits frame p p
+pub begins : (limits : Limits) (frame : List ℕ) (p : Run) → Able p.board.state p.board.pool p.output p.progress → checked (read (version_of p)) frame p.progress.next ≡ Ok (tt {0}) → width_of p ≤ length p.board.state.rows → p.board.state.greatest < 2 ^ 32 → Going limits frame p p
 unfolding messages_from
 begins limits frame p A accepted rows low =
     let u : Version = version_of p in
@@ -341,5 +338,5 @@ module _ {limits : Limits} {frame : List ℕ} {p₀ p : Run} (G : Going limits f
   pub some_left : goes_on limits frame p ≡ true → p.progress.next < length frame
   some_left test = ltb-true p.progress.next (length frame) (both (ltb p.progress.next (length frame)) (roomy p.progress limits (length p.output)) test).0
 
-  pub never_bad : {A : Type 0} → goes_on limits frame p ≡ true → (q : Fault) → answer p.progress.next (read (version_of p₀) (drop p.progress.next frame)) ≡ Bad q → A
+  pub never_bad : {A : Type 0} → goes_on limits frame p ≡ true → (q : Fault) → answer p.progress.next (read (version_of p₀) (drop p.progress.next frame)) ≡ Err q → A
   never_bad test q told = Items.never (version_of p₀) frame p.progress.next (left (version_of p₀) frame p) G.here (some_left test) q told

@@ -9,6 +9,7 @@ use lib.Dec.{ltb}
 use lib.ListN.{length, get_or, drop, set, length-set}
 use lib.Seq.{set-get_or}
 use borrow.Author.Tests.{leb-true, lt-ltb, le-ltb, le-leb}
+use Rattle.std.proofs.Common.{None}
 use Rattle.octets.specs.Octets.{number}
 use Rattle.octets.proofs.Flags.{both, or_left, cond_elim}
 use Rattle.wire.specs.Layout.{message, fitting}
@@ -35,7 +36,6 @@ use Rattle.messages.specs.Run.{admits, row_step}
 use Rattle.rows.specs.State.{window_of, sound_from, sound}
 use Rattle.rows.specs.declared.Act.{Act}
 use Rattle.rows.specs.declared.Act.TheVariants.{Pass, HandOut, Piece, Cancel}
-use Rattle.rows.specs.declared.Origin.TheVariants.{Whole}
 use Rattle.rows.specs.declared.State.{State}
 use Rattle.rows.specs.declared.Visit.{Visit}
 use Rattle.messages.proofs.Cells.{length-cell, length-put-cell, same-cell}
@@ -91,7 +91,7 @@ module _ (w : ℕ) (win : Window w) (order : Order) (b : Board) (full : w ≤ le
   positive = omega (arith, row_below w win 0)
 
   passed : (o : Option (List ℕ)) (act : Act) → landed w order b (stay s.present s.greatest act) (record { row = get_or s.rows 0 (empty_row Free); cell = cell_at b.pool 0; bundle = o })
-      ≡ record { board = b; handed = handed_of Whole o }
+      ≡ record { board = b; handed = handed_of None o }
   passed o act = rw (set-get_or s.rows 0 (empty_row Free), same-cell w b.pool pooled 0 positive)
 
   module _ (low : s.greatest < 2 ^ 32) (content : List ℕ) (t : ℕ) (act : Act) (rule : Row → List ℕ → Rules.Outcome) (does : (r : Row) (cell : List ℕ) → row_step order act content r cell ≡ rule r cell) where

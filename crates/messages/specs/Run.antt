@@ -1,19 +1,17 @@
 -- The message loop as the code runs it: with limits on messages and bundles, which lie one behind another in the output, each with its
 -- length and its transfer number in two lists. The laws that tie it to the receiving call are in proofs/.
-use Rattle.std.specs.Prelude.{◌≡◌, Bool, true, cond, ◌&&◌, List, [], ◌∷◌, ℕ, ◌+◌, ◌-◌, ◌*◌, ◌≤◌, ◌^◌, length, drop, set, ltb, leb}
+use Rattle.std.specs.Prelude.{◌≡◌, Bool, true, cond, ◌&&◌, List, [], ◌∷◌, ℕ, ◌+◌, ◌-◌, ◌*◌, ◌≤◌, ◌^◌, length, drop, set, ltb, leb, None, Some}
 use Rattle.std.proofs.Math.Option.{Option, none, some}
 use Rattle.octets.specs.Octets.{number, put}
 use Rattle.wire.specs.Frame.{Item}
 use Rattle.pieces.specs.declared.Order.{Order}
 use Rattle.row.specs.declared.Row.{Row}
-use Rattle.reassembly.specs.declared.Delivery.{Delivery}
-use Rattle.reassembly.specs.declared.Delivery.TheVariants.{Nothing, Bundle}
+use Rattle.reassembly.specs.Delivery.{Delivery}
 use Rattle.reassembly.specs.Rules as Rules
 use Rattle.reassembly.specs.declared.Taken.{Taken}
 use Rattle.pieces.specs.Pieces.{bundle_max}
 use Rattle.reassembly.specs.Rules.{silent, piece_step, cancel_step, delivery_of}
-use Rattle.rows.specs.declared.Origin.{Origin}
-use Rattle.rows.specs.declared.Origin.TheVariants.{Whole, Transfer}
+use Rattle.rows.specs.Origin.{Origin}
 use Rattle.rows.specs.declared.Act.{Act}
 use Rattle.rows.specs.declared.Act.TheVariants.{Pass, HandOut, Piece, Cancel}
 use Rattle.messages.specs.declared.Limits.{Limits}
@@ -64,40 +62,40 @@ going state pool output lengths numbers progress =
 
 -- before the first message, at a place
 abbrev pub begun : ℕ → Progress
-begun place = record { treated = 0; count = 0; used = 0; next = place; origin = Whole }
+begun place = record { treated = 0; count = 0; used = 0; next = place; origin = None }
 
 abbrev pub size : Delivery → ℕ
-size Nothing = 0
-size (Bundle n) = n
+size None = 0
+size (Some n) = n
 
 -- the transfer number, or 2 ^ 32 for none
 abbrev pub origin_number : Origin → ℕ
-origin_number Whole = 2 ^ 32
-origin_number (Transfer t) = t
+origin_number None = 2 ^ 32
+origin_number (Some t) = t
 
 -- bundle k in the list of lengths and in that of numbers; a list that has no entry for it stays
 abbrev pub listed : ℕ → Delivery → List ℕ → List ℕ
-listed k Nothing lengths = lengths
-listed k (Bundle n) lengths = set lengths k n
+listed k None lengths = lengths
+listed k (Some n) lengths = set lengths k n
 
 abbrev pub numbered : ℕ → Delivery → Origin → List ℕ → List ℕ
-numbered k Nothing origin numbers = numbers
-numbered k (Bundle n) origin numbers = set numbers k (origin_number origin)
+numbered k None origin numbers = numbers
+numbered k (Some n) origin numbers = set numbers k (origin_number origin)
 
 -- a message was treated, and the next starts at `next`
 unfoldable pub progressed : Progress → Delivery → ℕ → Origin → Progress
-progressed p Nothing next origin = record { treated = p.treated + 1; count = p.count; used = p.used; next = next; origin = p.origin }
-progressed p (Bundle n) next origin = record { treated = p.treated + 1; count = p.count + 1; used = p.used + n; next = next; origin = origin }
+progressed p None next origin = record { treated = p.treated + 1; count = p.count; used = p.used; next = next; origin = p.origin }
+progressed p (Some n) next origin = record { treated = p.treated + 1; count = p.count + 1; used = p.used + n; next = next; origin = origin }
 
 unfoldable pub advanced : Run → Board → ℕ → Option Handed → Run
-advanced p b next none = record { board = b; output = p.output; lengths = p.lengths; numbers = p.numbers; progress = progressed p.progress Nothing next Whole }
+advanced p b next none = record { board = b; output = p.output; lengths = p.lengths; numbers = p.numbers; progress = progressed p.progress None next None }
 advanced p b next (some h) =
     record {
       board = b;
       output = put p.output p.progress.used h.octets;
       lengths = set p.lengths p.progress.count (length h.octets);
       numbers = set p.numbers p.progress.count (origin_number h.origin);
-      progress = progressed p.progress (Bundle (length h.octets)) next h.origin;
+      progress = progressed p.progress (Some (length h.octets)) next h.origin;
     }
 
 -- fewer messages and bundles than the limits, and there is room for a bundle

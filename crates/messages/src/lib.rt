@@ -1,9 +1,8 @@
 // The message loop: messages of a frame treated one after the other (document 01, "Receiving call").
 #![tactic(auto)]
 
-ghost use Rattle.std.specs.Prelude.{◌≡◌, true, ◌&&◌, ◌+◌, ◌*◌, ◌≤◌, ◌<◌, ◌^◌, length, set, ltb};
+ghost use Rattle.std.specs.Prelude.{◌≡◌, true, ◌&&◌, ◌+◌, ◌*◌, ◌≤◌, ◌<◌, ◌^◌, length, set, ltb, List};
 ghost use Rattle.wire.specs.Frame.{checked, frame_max};
-ghost use Rattle.wire.specs.declared.Checked.TheVariants as Frame;
 ghost use Rattle.pieces.specs.Pieces.{bundle_max};
 ghost use Rattle.row.specs.Row.{sound_row};
 ghost use Rattle.reassembly.specs.Rules.{Answers};
@@ -11,10 +10,11 @@ ghost use Rattle.rows.specs.Message.{order_of, draft_of, cell_at};
 ghost use Rattle.messages.specs.Run as Loop;
 
 use pieces::{BUNDLE_MAX, Order};
-use reassembly::{Delivery, Taken};
+use reassembly::Taken;
 use row::{Phase, Row};
-use rows::{Act, Origin, Settings, State, Visit};
-use wire::{Kind, Reading, Version};
+use rows::{Act, Settings, State, Visit};
+use window::Window;
+use wire::{Kind, Version};
 
 // Messages treated, bundles handed out, their octets, the next message's start, and the last bundle's origin.
 #[derive(Clone, Copy)]
@@ -23,7 +23,7 @@ pub struct Progress {
     pub count: usize,
     pub used: usize,
     pub next: usize,
-    pub origin: Origin,
+    pub origin: Option<u32>,
 }
 
 // The most messages and the most bundles.
@@ -53,13 +53,13 @@ fn row_turn(
 {
     match act {
         Act::Pass => Taken {
-            delivery: Delivery::Nothing,
+            delivery: None,
             row,
         },
         Act::HandOut => {
             octets::copy_into(out, 0, content);
             Taken {
-                delivery: Delivery::Bundle(content.len()),
+                delivery: Some(content.len()),
                 row,
             }
         }
@@ -68,7 +68,7 @@ fn row_turn(
             reassembly::take_piece(order, row, cell, index, &content[8..], ending, out)
         }
         Act::Cancel => Taken {
-            delivery: Delivery::Nothing,
+            delivery: None,
             row: reassembly::cancelled(row),
         },
     }
@@ -101,29 +101,21 @@ fn cell_turn(
 }
 
 // The transfer number, or one that no transfer has.
-pub fn origin_number(origin: Origin) -> u64
+pub fn origin_number(origin: Option<u32>) -> u64
     ensures { result ≡ Loop.origin_number origin }
 {
     match origin {
-        Origin::Whole => 4294967296,
-        Origin::Transfer(number) => number as u64,
+        None => 4294967296,
+        Some(number) => number as u64,
     }
 }
 
 // An entry, where the list has it.
-fn put_length(lengths: &mut [u16], at: usize, n: u16)
-    ensures { lengths.new ≡ set lengths.old at n }
+pub fn put_entry<T: Copy>(entries: &mut [T], at: usize, x: T)
+    ensures { entries.new ≡ set entries.old at x }
 {
-    if at < lengths.len() {
-        lengths[at] = n;
-    }
-}
-
-fn put_origin(numbers: &mut [u64], at: usize, n: u64)
-    ensures { numbers.new ≡ set numbers.old at n }
-{
-    if at < numbers.len() {
-        numbers[at] = n;
+    if at < entries.len() {
+        entries[at] = x;
     }
 }
 
@@ -132,18 +124,15 @@ fn list_bundle(
     lengths: &mut [u16],
     numbers: &mut [u64],
     at: usize,
-    delivery: Delivery,
-    origin: Origin,
+    delivery: Option<usize>,
+    origin: Option<u32>,
 )
     requires { Loop.size delivery ≤ bundle_max }
     ensures { (lengths.new ≡ Loop.listed at delivery lengths.old) × (numbers.new ≡ Loop.numbered at delivery origin numbers.old) }
 {
-    match delivery {
-        Delivery::Nothing => {}
-        Delivery::Bundle(n) => {
-            put_length(lengths, at, n as u16);
-            put_origin(numbers, at, origin_number(origin));
-        }
+    if let Some(n) = delivery {
+        put_entry(lengths, at, n as u16);
+        put_entry(numbers, at, origin_number(origin));
     }
 }
 
@@ -156,28 +145,19 @@ pub fn begun(place: usize) -> Progress
         count: 0,
         used: 0,
         next: place,
-        origin: Origin::Whole,
+        origin: None,
     }
 }
 
 // After a message, with the next one's start.
-fn progressed(p: Progress, delivery: Delivery, next: usize, origin: Origin) -> Progress
+fn progressed(p: Progress, delivery: Option<usize>, next: usize, origin: Option<u32>) -> Progress
     requires { (p.treated + 1 < 2 ^ 64) × (p.count + 1 < 2 ^ 64) × (p.used + Loop.size delivery < 2 ^ 64) }
     ensures { result ≡ Loop.progressed p delivery next origin }
 {
     let treated = p.treated + 1;
     match delivery {
-        Delivery::Nothing => {
-            let origin = p.origin;
-            Progress {
-                treated,
-                count: p.count,
-                used: p.used,
-                next,
-                origin,
-            }
-        }
-        Delivery::Bundle(n) => Progress {
+        None => Progress { treated, next, ..p },
+        Some(n) => Progress {
             treated,
             count: p.count + 1,
             used: p.used + n,
@@ -192,7 +172,7 @@ pub fn roomy(p: Progress, limits: Limits, output: usize) -> bool
     requires { p.used ≤ output }
     ensures { result ≡ Loop.roomy p limits output }
 {
-    (p.treated < limits.messages) & ((p.count < limits.bundles) & (BUNDLE_MAX <= output - p.used))
+    p.treated < limits.messages && p.count < limits.bundles && BUNDLE_MAX <= output - p.used
 }
 
 // Whether a further message of a frame of this length is treated.
@@ -200,26 +180,7 @@ fn more(p: Progress, limits: Limits, frame: usize, output: usize) -> bool
     requires { p.used ≤ output }
     ensures { result ≡ (ltb p.next frame && Loop.roomy p limits output) }
 {
-    (p.next < frame) & roomy(p, limits, output)
-}
-
-// What the loop leaves.
-fn ended(
-    progress: Progress,
-    present: bool,
-    greatest: u32,
-    rows: [Row; 16],
-    settings: Settings,
-) -> Ran
-    ensures { result ≡ record { progress = progress; state = record { present = present; greatest = greatest; rows = rows; settings = settings } } }
-{
-    let state = State {
-        present,
-        greatest,
-        rows,
-        settings,
-    };
-    Ran { progress, state }
+    p.next < frame && roomy(p, limits, output)
 }
 
 // Goes on from a progress with the messages of a frame, until a limit is reached or the output lacks room for a further bundle.
@@ -235,33 +196,36 @@ pub fn run(
 ) -> Ran
     requires { (Loop.Able state pool.old output.old from)
         × (length frame.now ≤ frame_max)
-        × (checked (draft_of state).read frame.now from.next ≡ Frame.Accepted) }
+        × (checked (draft_of state).read frame.now from.next ≡ Ok tt) }
     ensures { (Loop.going result.state pool.new output.new lengths.new numbers.new result.progress
         ≡ Loop.run_from limits (Loop.going state pool.old output.old lengths.old numbers.old from) frame.now)
         × (Loop.Able result.state pool.new output.new result.progress) }
 {
     let settings = state.settings;
     let version = settings.version;
-    let window = settings.window;
     let mut present = state.present;
     let mut greatest = state.greatest;
     let mut rows = state.rows;
     let mut progress = from;
+    // The place of the next message is the loop's variable: no count, and no iterator knows where a message ends.
     while more(progress, limits, frame.len(), output.len()) {
-        let Reading::Good(m) = wire::read_message(version, frame, progress.next) else {
+        let Ok(m) = wire::read_message(version, frame, progress.next) else {
             break;
         };
-        let kind = m.kind;
-        let start = m.start;
         let end = m.end;
-        if let Kind::Skipped = kind {
-            progress = progressed(progress, Delivery::Nothing, end, Origin::Whole);
+        if let Kind::Skipped = m.kind {
+            progress = progressed(progress, None, end, None);
             continue;
         }
-        let content = &frame[start..end];
-        let v = rows::visit_of(window, present, greatest, kind, content);
+        let content = &frame[m.start..end];
+        let window = Window {
+            size: settings.window,
+            present,
+            greatest,
+        };
+        let v = rows::visit_of(window, m.kind, content);
         if 1 < v.entered {
-            rows = rows::freed(rows, window, greatest, v.entered);
+            rows = rows::freed(rows, window, v.entered);
         }
         present = v.present;
         greatest = v.greatest;
@@ -270,12 +234,17 @@ pub fn run(
             rows[slot] = row::empty_row(Phase::Free);
         }
         let t = cell_turn(version, rows[slot], v, pool, content, output, progress.used);
-        let next = t.row;
-        rows[slot] = next;
-        let delivery = t.delivery;
-        let origin = v.origin;
-        list_bundle(lengths, numbers, progress.count, delivery, origin);
-        progress = progressed(progress, delivery, end, origin);
+        rows[slot] = t.row;
+        list_bundle(lengths, numbers, progress.count, t.delivery, v.origin);
+        progress = progressed(progress, t.delivery, end, v.origin);
     }
-    ended(progress, present, greatest, rows, settings)
+    Ran {
+        progress,
+        state: State {
+            present,
+            greatest,
+            rows,
+            settings,
+        },
+    }
 }

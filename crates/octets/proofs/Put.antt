@@ -1,5 +1,5 @@
 -- Writing at an offset: `put` of specs/Octets.antt.
---     put-paste      a finished copy is a put
+--     put-mid        a part that was replaced is a put
 --     length-put     a put within a list keeps its length
 --     put-none       a put of nothing
 --     put_whole      a put of all octets
@@ -15,14 +15,17 @@ use Prim.Native.Nat.{ℕ, zero, suc, ◌+◌, ◌-◌, ◌≤◌, ◌<◌}
 use native.Mathlib.Numerals.{add-one}
 use native.Mathlib.Nat.{add_assoc, add-zero, zero-add}
 use native.Mathlib.Omega.{arith}
+use borrow.Rule.Slice.PartMut.{put_mid, Post-is}
 use lib.ListN.{length, take, drop, set, get_or, length-append, length-take, length-drop, take-append-drop}
-use lib.Seq.{set_split, drop-cons, append_snoc, set-append_seam, take_all, take-add, paste, paste-suc, take-length, drop-length, length-take-le, take_at, drop_at, drop-drop}
+use lib.Seq.{set_split, drop-cons, append_snoc, set-append_seam, take_all, take-add, drop-length, length-take-le, take_at, drop_at, drop-drop}
 use Rattle.octets.specs.Octets.{Octets, put}
 use Rattle.octets.proofs.Numbers.{octets_drop, octets_take, octets_append}
 
-pub put-paste : (d : List ℕ) (at : ℕ) (s : List ℕ) → paste d at s (length s) ≡ put d at s
+pub put-mid : (d : List ℕ) (at e : ℕ) (s : List ℕ) → e ≡ at + length s → put_mid at (e - at) d s ≡ put d at s
 unfolding put
-put-paste d at s = ap (λ (r : List ℕ). take at d ++ r ++ drop (at + length s) d) (take-length s)
+put-mid d at e s h =
+    ap (λ (r : List ℕ). take at d ++ (s ++ r)) (Post-is at e d (omega arith) ∙ ap (λ (n : ℕ). drop n d) h)
+    ∙ sym (append_assoc (take at d) s (drop (at + length s) d))
 
 pub length-put : (d : List ℕ) (at : ℕ) (s : List ℕ) → at + length s ≤ length d → length (put d at s) ≡ length d
 unfolding put
@@ -39,15 +42,6 @@ put_whole d s e = rw (e, zero-add (length d), drop-length d, append-nil s)
 pub read_back : (d₀ d s : List ℕ) → d ≡ put d₀ 0 s → take (length s) d ≡ s
 unfolding put
 read_back d₀ d s e = rw e (take_at s (drop (0 + length s) d₀) (length s) refl)
-
--- a turn of a loop that copies s to the place `at`
-pub paste-turn : (d₀ d : List ℕ) (at : ℕ) (s : List ℕ) (j : ℕ) → d ≡ paste d₀ at s j → at + j < length d₀ → j < length s
-    → set d (at + j) (get_or s j 0) ≡ paste d₀ at s (j + 1)
-paste-turn d₀ d at s j e h k = rw (e, add-one j) (paste-suc d₀ at s j 0 h k)
-
--- the copy is done when j is s's length
-pub paste-done : (d₀ d : List ℕ) (at : ℕ) (s : List ℕ) (j : ℕ) → d ≡ paste d₀ at s j → j ≡ length s → d ≡ put d₀ at s
-paste-done d₀ d at s j e h = e ∙ ap (λ (n : ℕ). paste d₀ at s n) h ∙ put-paste d₀ at s
 
 pub put_behind : (d : List ℕ) (at k : ℕ) (a b : List ℕ) → k ≡ at + length a → at ≤ length d → put (put d at a) k b ≡ put d at (a ++ b)
 unfolding put

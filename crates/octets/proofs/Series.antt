@@ -1,11 +1,11 @@
--- Items of one width, read and written one by one; items changed one by one in their place.
-use mathlib.Core.List.{List, [], ◌∷◌, ◌++◌, map, append_assoc, append-nil}
-use mathlib.Core.Path.{◌≡◌, refl, sym, ap, ◌∙◌}
+-- Items of one width, read and written one by one.
+use mathlib.Core.List.{List, [], ◌∷◌, ◌++◌, append_assoc, append-nil}
+use mathlib.Core.Path.{◌≡◌, sym, ap, ◌∙◌}
 use Prim.Native.Nat.{ℕ, zero, suc, ◌+◌, ◌*◌, ◌≤◌, ◌<◌}
 use native.Mathlib.Nat.{add_comm, zero-mul, suc-mul}
 use native.Mathlib.Numerals.{add-one}
 use native.Mathlib.Omega.{arith}
-use lib.ListN.{length, get_or, take, drop, set, length-append, drop_of_length-le}
+use lib.ListN.{length, get_or, take, drop, set, length-append}
 use lib.Seq.{take_all, take-suc, take-suc-set, drop-drop}
 use Rattle.octets.specs.Octets.{put}
 use Rattle.octets.proofs.Put.{put-put}
@@ -50,26 +50,3 @@ module _ {A : Type 0} (f : A → List ℕ) (g : List A → List ℕ) (none : g [
 
   pub write-end : (d d' : List ℕ) (items : List A) (at k : ℕ) → d' ≡ put d at (g (take k items)) → length items ≤ k → d' ≡ put d at (g items)
   write-end d d' items at k e h = e ∙ rw (take_all k items h)
-
-pub map-set : {A B : Type 0} (f : A → B) (xs : List A) (k : ℕ) (v : A) → map f (set xs k v) ≡ set (map f xs) k (f v)
-map-set f [] k v = refl
-map-set f (x ∷ xs) zero v = refl
-map-set {B = B} f (x ∷ xs) (suc k) v = ap (λ (ys : List B). f x ∷ ys) (map-set f xs k v)
-
--- a loop that puts f of each item in its place
-module _ {A : Type 0} (f : A → A) where
-  -- f of the items from k on
-  abbrev pub map_from : ℕ → List A → List A
-  map_from k xs = take k xs ++ map f (drop k xs)
-
-  map_next : (xs : List A) (k : ℕ) (z : A) → map_from (suc k) (set xs k (f (get_or xs k z))) ≡ map_from k xs
-  map_next [] zero z = refl
-  map_next [] (suc k) z = refl
-  map_next (x ∷ xs) zero z = refl
-  map_next (x ∷ xs) (suc k) z = ap (λ (ys : List A). x ∷ ys) (map_next xs k z)
-
-  pub map-turn : (xs : List A) (k : ℕ) (z : A) → map_from (k + 1) (set xs k (f (get_or xs k z))) ≡ map_from k xs
-  map-turn xs k z = rw (add-one k) (map_next xs k z)
-
-  pub map-end : (xs : List A) (k : ℕ) → length xs ≤ k → map_from k xs ≡ xs
-  map-end xs k h = rw (take_all k xs h, drop_of_length-le xs h) (append-nil xs)

@@ -38,7 +38,3 @@ sum_of (x ∷ xs) = x + sum_of xs
 -- the octets vs from `at` on; all other octets of d stay
 unfoldable pub put : List ℕ → ℕ → List ℕ → List ℕ
 put d at vs = take at d ++ vs ++ drop (at + length vs) d
-
--- the greatest length of a copy: a bundle's
-abbrev pub copy_max : ℕ
-copy_max = 4096

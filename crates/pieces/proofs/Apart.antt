@@ -5,13 +5,13 @@ use mathlib.Core.List.{List, [], ◌∷◌}
 use mathlib.Core.Logic.{◌⊎◌, inl, inr}
 use Prim.Native.Nat.{ℕ, zero, suc, ◌+◌, ◌≤◌, ◌<◌}
 use native.Mathlib.Omega.{arith}
-use lib.ListN.{length, get_or, set, replicate, length-set, length-replicate}
-use lib.Seq.{get_or-set_same, get_or-set_other}
+use lib.ListN.{length, get_or, set, drop, replicate, length-set, length-replicate, drop_of_length-le}
+use lib.Seq.{drop-cons, get_or-set_same, get_or-set_other}
+use native.Mathlib.Numerals.{add-one}
 use lib.Dec.{ltb, eqb}
 use borrow.Author.Tests.{eqb-true, eqb-false, lt-ltb, le-ltb, ltb-false}
 use Rattle.octets.proofs.Flags.{bool}
 use Rattle.pieces.specs.Pieces.{has, has_above, distinct, low_and_distinct}
-use Rattle.octets.proofs.Rest.{rest, rest-next, rest_end}
 
 unfoldable pub apart : List Bool → List ℕ → Bool
 apart seen [] = true
@@ -86,15 +86,15 @@ one_more : (twice seen later : Bool) → (not twice && (not seen && later)) ≡ 
 one_more true seen later = refl
 one_more false seen later = refl
 
-module _ (all twice : Bool) (seen : List Bool) (k n : ℕ) (xs : List ℕ) (l : n ≤ length xs) (e : all ≡ (not twice && apart seen (rest k n xs))) where
-  pub apart-high : k < n → 63 < get_or xs k 0 → false ≡ all
+module _ (all twice : Bool) (seen : List Bool) (k : ℕ) (xs : List ℕ) (e : all ≡ (not twice && apart seen (drop k xs))) where
+  pub apart-high : k < length xs → 63 < get_or xs k 0 → false ≡ all
   unfolding apart
-  apart-high h g = sym (e ∙ rw (rest-next k n xs h l, lt-ltb 63 (get_or xs k 0) g) (and-false (not twice)))
+  apart-high h g = sym (e ∙ rw (drop-cons xs k 0 h, lt-ltb 63 (get_or xs k 0) g) (and-false (not twice)))
 
-  pub apart-turn : k < n → get_or xs k 0 ≤ 63 → all ≡ (not (twice || get_or seen (get_or xs k 0) false) && apart (set seen (get_or xs k 0) true) (rest (k + 1) n xs))
+  pub apart-turn : k < length xs → get_or xs k 0 ≤ 63 → all ≡ (not (twice || get_or seen (get_or xs k 0) false) && apart (set seen (get_or xs k 0) true) (drop (k + 1) xs))
   unfolding apart
-  apart-turn h g = e ∙ rw (rest-next k n xs h l, le-ltb 63 (get_or xs k 0) g) (one_more twice (get_or seen (get_or xs k 0) false) (apart (set seen (get_or xs k 0) true) (rest (k + 1) n xs)))
+  apart-turn h g = e ∙ rw (add-one, drop-cons xs k 0 h, le-ltb 63 (get_or xs k 0) g) (one_more twice (get_or seen (get_or xs k 0) false) (apart (set seen (get_or xs k 0) true) (drop (suc k) xs)))
 
-  pub apart-end : n ≤ k → not twice ≡ all
+  pub apart-end : length xs ≤ k → not twice ≡ all
   unfolding apart
-  apart-end h = sym (e ∙ rw (rest_end k n xs h l) (and-true (not twice)))
+  apart-end h = sym (e ∙ rw (drop_of_length-le xs {i = k} h) (and-true (not twice)))

@@ -21,10 +21,21 @@ sum-snoc n (l ∷ ls) = omega (arith, sum-snoc n ls)
 pub sum-next : (k : ℕ) (ls : List ℕ) → k < length ls → sum_of (take (k + 1) ls) ≡ sum_of (take k ls) + get_or ls k 0
 sum-next k ls h = rw (add-one, take-suc ls k 0 h) (sum-snoc (get_or ls k 0) (take k ls))
 
+pub sum-take : (k : ℕ) (ls : List ℕ) → sum_of (take k ls) ≤ sum_of ls
+unfolding sum_of
+sum-take zero ls = omega arith
+sum-take (suc k) [] = omega arith
+sum-take (suc k) (l ∷ ls) = omega (arith, sum-take k ls)
+
 pub has-append : (i : ℕ) (is js : List ℕ) → has i (is ++ js) ≡ (has i is || has i js)
 unfolding has
 has-append i [] js = refl
 has-append i (x ∷ is) js = rw (has-append i is js) (sym (or_assoc (eqb x i) (has i is) (has i js)))
+
+pub above-append : (i : ℕ) (is js : List ℕ) → has_above i (is ++ js) ≡ (has_above i is || has_above i js)
+unfolding has_above
+above-append i [] js = refl
+above-append i (x ∷ is) js = rw (above-append i is js) (sym (or_assoc (ltb i x) (has_above i is) (has_above i js)))
 
 pub has_last : (i : ℕ) (is : List ℕ) → has i (is ++ i ∷ []) ≡ true
 unfolding has

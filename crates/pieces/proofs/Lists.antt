@@ -1,52 +1,41 @@
--- Searches over the entries of an array that a loop has yet to look at.
-use mathlib.Core.Path.{◌≡◌, sym, ◌∙◌}
-use mathlib.Core.Bool.{Bool, true, false, ◌&&◌, ◌||◌, and-true, and-false, or_assoc, or-false}
-use mathlib.Core.List.{List}
+-- Searches over the entries of an array, those that a loop has passed or has yet to look at.
+use mathlib.Core.Path.{◌≡◌, refl}
+use mathlib.Core.Bool.{true, false, ◌&&◌, ◌||◌, and-false, or-false}
+use mathlib.Core.List.{List, [], ◌∷◌}
 use mathlib.Core.Logic.{◌⊎◌, inl, inr}
 use Prim.Native.Nat.{ℕ, zero, suc, ◌+◌, ◌≤◌, ◌<◌}
 use native.Mathlib.Numerals.{add-one}
 use native.Mathlib.Nat.{eq-or-lt_of_le}
 use native.Mathlib.Omega.{arith}
-use lib.ListN.{length, drop, get_or, drop_of_length-le}
-use lib.Seq.{drop-cons}
+use lib.ListN.{length, take, drop, get_or}
+use lib.Seq.{drop-cons, take-suc}
 use lib.Dec.{ltb, eqb}
 use borrow.Author.Tests.{eqb-true, eqb-false, eq-eqb, ne_eqb}
+use Rattle.octets.specs.Octets.{sum_of}
 use Rattle.octets.proofs.Flags.{bool}
-use Rattle.octets.proofs.Rest.{rest, rest-next, rest_end}
+use Rattle.pieces.proofs.Appending.{has-append, above-append}
 use Rattle.pieces.specs.Pieces.{has, has_above, has_all, is_zeros}
-
-module _ (i k n : ℕ) (xs : List ℕ) (all : Bool) (seen : Bool) (h : k < n) (l : n ≤ length xs) where
-  pub has-turn : all ≡ (seen || has i (rest k n xs)) → all ≡ ((seen || eqb (get_or xs k 0) i) || has i (rest (k + 1) n xs))
-  unfolding has
-  has-turn e = e ∙ rw (rest-next k n xs h l) (sym (or_assoc seen (eqb (get_or xs k 0) i) (has i (rest (k + 1) n xs))))
-
-  pub above-turn : all ≡ (seen || has_above i (rest k n xs)) → all ≡ ((seen || ltb i (get_or xs k 0)) || has_above i (rest (k + 1) n xs))
-  unfolding has_above
-  above-turn e = e ∙ rw (rest-next k n xs h l) (sym (or_assoc seen (ltb i (get_or xs k 0)) (has_above i (rest (k + 1) n xs))))
-
-module _ (i k n : ℕ) (xs : List ℕ) (all : Bool) (seen : Bool) (h : n ≤ k) (l : n ≤ length xs) where
-  pub has_end : all ≡ (seen || has i (rest k n xs)) → seen ≡ all
-  unfolding has
-  has_end e = sym (e ∙ rw (rest_end k n xs h l) (or-false seen))
-
-  pub above-end : all ≡ (seen || has_above i (rest k n xs)) → seen ≡ all
-  unfolding has_above
-  above-end e = sym (e ∙ rw (rest_end k n xs h l) (or-false seen))
 
 -- ---- one index
 
-module _ (i k n : ℕ) (xs : List ℕ) (l : n ≤ length xs) where
-  pub has_here : k < n → get_or xs k 0 ≡ i → has i (rest k n xs) ≡ true
+module _ (i k : ℕ) (xs : List ℕ) (h : k < length xs) where
+  -- among the entries up to one more
+  pub has-next : (has i (take k xs) || eqb (get_or xs k 0) i) ≡ has i (take (k + 1) xs)
   unfolding has
-  has_here h e = rw (rest-next k n xs h l, eq-eqb (get_or xs k 0) i e)
+  has-next = rw (add-one, take-suc xs k 0 h, has-append i (take k xs) (get_or xs k 0 ∷ []), or-false (eqb (get_or xs k 0) i))
 
-  pub has_there : k < n → (get_or xs k 0 ≡ i → ⊥) → has i (rest k n xs) ≡ has i (rest (k + 1) n xs)
-  unfolding has
-  has_there h e = rw (rest-next k n xs h l, ne_eqb (get_or xs k 0) i e)
+  pub above-next : (has_above i (take k xs) || ltb i (get_or xs k 0)) ≡ has_above i (take (k + 1) xs)
+  unfolding has_above
+  above-next = rw (add-one, take-suc xs k 0 h, above-append i (take k xs) (get_or xs k 0 ∷ []), or-false (ltb i (get_or xs k 0)))
 
-  pub has-none : n ≤ k → has i (rest k n xs) ≡ false
+  -- among the entries left, at one and past another one
+  pub has_here : get_or xs k 0 ≡ i → has i (drop k xs) ≡ true
   unfolding has
-  has-none h = rw (rest_end k n xs h l)
+  has_here e = rw (drop-cons xs k 0 h, eq-eqb (get_or xs k 0) i e)
+
+  pub has_there : (get_or xs k 0 ≡ i → ⊥) → has i (drop k xs) ≡ has i (drop (k + 1) xs)
+  unfolding has
+  has_there e = rw (add-one, drop-cons xs k 0 h, ne_eqb (get_or xs k 0) i e)
 
 -- ---- every index below a number
 
@@ -63,31 +52,25 @@ all_lacks (suc n) i is h e = go (λ q. all_lacks n i is q e) (let h' : i ≤ n =
     go below (inl q) = let z : has n is ≡ false = rw (← q) e in rw z
     go below (inr q) = rw (below q) (and-false (has n is))
 
-pub all_done : (a : Bool) (n m : ℕ) (is : List ℕ) → a ≡ true → n ≡ m → has_all n is ≡ true → a ≡ has_all m is
-all_done a n m is e q h = e ∙ sym (rw q at h)
-
 -- ---- zero entries
 
-sum-zero : (s x y : ℕ) (a b : Bool) → (eqb s 0 && ((eqb x 0 && a) && (eqb y 0 && b))) ≡ (eqb (s + (x + y)) 0 && (a && b))
-sum-zero s x y a b = go (bool (eqb s 0)) (bool (eqb x 0)) (bool (eqb y 0))
+pub both-zero : (x s : ℕ) → (eqb x 0 && eqb s 0) ≡ eqb (x + s) 0
+both-zero x s = go (bool (eqb x 0)) (bool (eqb s 0))
   where
-    go : (eqb s 0 ≡ true) ⊎ (eqb s 0 ≡ false) → (eqb x 0 ≡ true) ⊎ (eqb x 0 ≡ false) → (eqb y 0 ≡ true) ⊎ (eqb y 0 ≡ false)
-        → (eqb s 0 && ((eqb x 0 && a) && (eqb y 0 && b))) ≡ (eqb (s + (x + y)) 0 && (a && b))
-    go (inr p) q r = let z = eqb-false s 0 p in rw (p, ne_eqb (s + (x + y)) 0 (λ e. z (omega arith)))
-    go (inl p) (inr q) r = let z = eqb-false x 0 q in rw (p, q, ne_eqb (s + (x + y)) 0 (λ e. z (omega arith)))
-    go (inl p) (inl q) (inr r) = let z = eqb-false y 0 r in rw (p, q, r, ne_eqb (s + (x + y)) 0 (λ e. z (omega arith))) (and-false a)
-    go (inl p) (inl q) (inl r) =
-        let u : s ≡ 0 = eqb-true s 0 p in let v : x ≡ 0 = eqb-true x 0 q in let w : y ≡ 0 = eqb-true y 0 r in
-        rw (p, q, r, eq-eqb (s + (x + y)) 0 (omega arith))
+    go : (eqb x 0 ≡ true) ⊎ (eqb x 0 ≡ false) → (eqb s 0 ≡ true) ⊎ (eqb s 0 ≡ false) → (eqb x 0 && eqb s 0) ≡ eqb (x + s) 0
+    go (inl p) (inl q) = let u = eqb-true x 0 p in let v = eqb-true s 0 q in rw (p, q, eq-eqb (x + s) 0 (omega arith))
+    go (inl p) (inr q) = let v = eqb-false s 0 q in rw (p, q, ne_eqb (x + s) 0 (λ e. v (omega arith)))
+    go (inr p) q = let u = eqb-false x 0 p in rw (p, ne_eqb (x + s) 0 (λ e. u (omega arith)))
 
-zeros-next : (k : ℕ) (xs : List ℕ) → k < length xs → is_zeros (drop k xs) ≡ (eqb (get_or xs k 0) 0 && is_zeros (drop (k + 1) xs))
-unfolding is_zeros
-zeros-next k xs h = rw (add-one, drop-cons xs k 0 h)
+pub zeros-sum : (xs : List ℕ) → is_zeros xs ≡ eqb (sum_of xs) 0
+unfolding is_zeros sum_of
+zeros-sum [] = refl
+zeros-sum (x ∷ xs) = rw (zeros-sum xs) (both-zero x (sum_of xs))
 
-pub zeros-turn : (all : Bool) (s k : ℕ) (xs ys : List ℕ) → k < length xs → k < length ys → all ≡ (eqb s 0 && (is_zeros (drop k xs) && is_zeros (drop k ys)))
-    → all ≡ (eqb (s + (get_or xs k 0 + get_or ys k 0)) 0 && (is_zeros (drop (k + 1) xs) && is_zeros (drop (k + 1) ys)))
-zeros-turn all s k xs ys h g e = e ∙ rw (zeros-next k xs h, zeros-next k ys g) (sum-zero s (get_or xs k 0) (get_or ys k 0) (is_zeros (drop (k + 1) xs)) (is_zeros (drop (k + 1) ys)))
+-- ---- the entries that an iterator has left
 
-pub zeros-end : (all : Bool) (s k : ℕ) (xs ys : List ℕ) → length xs ≤ k → length ys ≤ k → all ≡ (eqb s 0 && (is_zeros (drop k xs) && is_zeros (drop k ys))) → eqb s 0 ≡ all
-unfolding is_zeros
-zeros-end all s k xs ys h g e = sym (e ∙ rw (drop_of_length-le xs {i = k} h, drop_of_length-le ys {i = k} g) (and-true (eqb s 0)))
+pub taken : (k : ℕ) (xs : List ℕ) (x : ℕ) (left : List ℕ) → x ∷ left ≡ drop k xs → (k < length xs) × ((x ≡ get_or xs k 0) × (left ≡ drop (k + 1) xs))
+taken zero [] x left e = absurd (cc)
+taken zero (y ∷ ys) x left e = (omega arith, (cc, cc))
+taken (suc k) [] x left e = absurd (cc)
+taken (suc k) (y ∷ ys) x left e = let t = taken k ys x left e in (omega arith, (t.1.0, rw add-one (rw add-one at t.1.1)))

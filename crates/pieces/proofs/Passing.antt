@@ -3,11 +3,10 @@ use mathlib.Core.Path.{◌≡◌, ◌∙◌}
 use mathlib.Core.List.{List}
 use Prim.Native.Nat.{ℕ, ◌+◌, ◌≤◌, ◌<◌}
 use native.Mathlib.Omega.{arith}
-use lib.ListN.{length, take, get_or}
+use lib.ListN.{length, drop, get_or}
 use lib.Dec.{ltb}
 use borrow.Author.Tests.{ltb-true}
 use Rattle.octets.proofs.Flags.{cond_elim}
-use Rattle.octets.proofs.Rest.{rest}
 use Rattle.pieces.proofs.Lists.{has_there}
 use Rattle.pieces.specs.Pieces.{has}
 use Rattle.pieces.specs.Search.{past_lower}
@@ -19,8 +18,8 @@ past_cases P i k n xs stays moves =
     cond_elim P (ltb k n) (λ e. cond_elim P (ltb (get_or xs k 0) i) (λ f. moves (ltb-true k n e) (ltb-true (get_or xs k 0) i f)) λ _. stays) λ _. stays
 
 -- the indexes from i on that are held are held from place k on
-abbrev pub Left : ℕ → ℕ → ℕ → List ℕ → Type 0
-Left i k n xs = (k ≤ n) × ((j : ℕ) → i ≤ j → has j (take n xs) ≡ has j (rest k n xs))
+abbrev pub Left : ℕ → ℕ → List ℕ → Type 0
+Left i k xs = (k ≤ length xs) × ((j : ℕ) → i ≤ j → has j xs ≡ has j (drop k xs))
 
-pub left-past : (i k r n : ℕ) (xs : List ℕ) → n ≤ length xs → r ≡ past_lower n xs k i → Left i k n xs → Left i r n xs
-left-past i k r n xs l q (h, e) = rw q (past_cases (λ p. Left i p n xs) i k n xs (h, e) λ b lower. (omega arith, λ j g. e j g ∙ has_there j k n xs l b (λ z. omega arith)))
+pub left-past : (i k r : ℕ) (xs : List ℕ) → r ≡ past_lower (length xs) xs k i → Left i k xs → Left i r xs
+left-past i k r xs q (h, e) = rw q (past_cases (λ p. Left i p xs) i k (length xs) xs (h, e) λ b lower. (omega arith, λ j g. e j g ∙ has_there j k xs b (λ z. omega arith)))

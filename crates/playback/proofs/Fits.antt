@@ -66,7 +66,7 @@ module _ (w : ℕ) (order : Order) where
 module _ (w : ℕ) (win : Window w) (order : Order) (limits : Limits) (most : limits.bundles ≡ bundles_limit) where
   fee_handed : (b : Board) (m : Message) (h : Handed) → (step w order b m).handed ≡ some h → fee m ≡ 4
   unfolding step fee
-  fee_handed b skipped h e = absurd (let z : ◌≡◌ {A = ℕ} 0 1 = cc in omega arith)
+  fee_handed b skipped h e = absurd (cc)
   fee_handed b (bundle c) h e = refl
   fee_handed b (segment t i d) h e = refl
   fee_handed b (last t i d) h e = refl

@@ -32,8 +32,9 @@ use Rattle.frames.specs.Frames.{Note, Reach, frames_of, set_out, through}
 use Rattle.frames.proofs.Joined.{octets_in, frames_fit, frames_many}
 use Rattle.frames.proofs.Adding.{poured_put, entries-put, sizes_of}
 use Rattle.playback.specs.Playback.{Playback, note_of, notes_within, played, treated_in}
-use Rattle.playback.specs.Call.{play_window, Results, results, Reply, reply, answered, bundles_max, buffer_size, Enough, played_fresh}
-use Rattle.playback.specs.declared.Answer.TheVariants.{Played}
+use Rattle.playback.specs.Call.{counts, play_window, Results, results, Reply, reply, answered, bundles_max, buffer_size, Enough, played_fresh}
+use Rattle.std.specs.Prelude.{Ok}
+use Rattle.playback.specs.declared.Played.{Played}
 use Rattle.frames.proofs.Costs.{priced_read}
 use Rattle.playback.proofs.Fits.{bundles_limit, Paid, Plays, plays}
 
@@ -59,7 +60,7 @@ play_limits limit = record { messages = limit; bundles = bundles_limit }
 -- as the loop over frames leaves it
 abbrev pub left : Reach → Reply
 left a =
-    reply (Played a.run.progress.treated a.run.progress.count a.run.progress.used a.refused) a.run.board.pool
+    reply (Ok (counts a.run.progress.treated a.run.progress.count a.run.progress.used a.refused)) a.run.board.pool
     (results a.run.output a.run.lengths a.places a.reasons)
 
 module _ (sizes joined : List ℕ) (limit : ℕ) (pool : List ℕ) (r : Results) (numbers : List ℕ) (E : Enough sizes joined pool r) (room : length r.output ≡ buffer_size) where
@@ -110,13 +111,16 @@ module _ (sizes joined : List ℕ) (limit : ℕ) (pool : List ℕ) (r : Results)
       let places : after.places ≡ put r.places 0 (map (λ (n : Note). n.place) ns) = N.places ∙ entries-put r.places 0 (map (λ (n : Note). n.place) ns) (rw (length-map ns) (omega (arith, E.places))) in
       let reasons : after.reasons ≡ put r.reasons 0 (map (λ (n : Note). n.reason) ns) = N.reasons ∙ entries-put r.reasons 0 (map (λ (n : Note). n.reason) ns) (rw (length-map ns) (omega (arith, E.reasons))) in
       let pooled : after.run.board.pool ≡ p.board.pool = ap (λ (b : Board). b.pool) T.board in
-      (λ i. reply (Played (treated i) (count i) (used i) (refused i)) (pooled i) (results (output i) (lengths i) (places i) (reasons i)), P.bounded.0)
+      (λ i. reply (Ok (counts (treated i) (count i) (used i) (refused i))) (pooled i) (results (output i) (lengths i) (places i) (reasons i)), P.bounded.0)
 
 -- the bundles copied from a buffer to the output
 module _ (p : Playback) (buffer : List ℕ) (r : Results) (messages bundles used refused : ℕ) (pool filled lengths places reasons : List ℕ)
-    (e : reply (Played messages bundles used refused) pool (results filled lengths places reasons) ≡ answered p (results buffer r.lengths r.places r.reasons)) where
+    (e : reply (Ok (counts messages bundles used refused)) pool (results filled lengths places reasons) ≡ answered p (results buffer r.lengths r.places r.reasons)) where
   all_used : used ≡ length (joined_octets p.bundles)
-  all_used = let a : Played messages bundles used refused ≡ _ = ap (λ (x : Reply). x.answer) e in cc
+  all_used =
+      let a = ap (λ (x : Reply). x.answer) e in
+      let b : counts messages bundles used refused ≡ counts (length p.messages) (length p.bundles) (length (joined_octets p.bundles)) (length p.notes) = cc in
+      ap (λ (x : Played). x.octets) b
 
   front : take used filled ≡ joined_octets p.bundles
   front = rw (all_used, ap (λ (x : Reply). x.results.output) e) (read_back buffer (put buffer 0 (joined_octets p.bundles)) (joined_octets p.bundles) refl)
@@ -124,7 +128,7 @@ module _ (p : Playback) (buffer : List ℕ) (r : Results) (messages bundles used
   pub front_length : length (take used filled) ≡ used
   front_length = ap length front ∙ sym all_used
 
-  pub copied : (output : List ℕ) → output ≡ put r.output 0 (take used filled) → reply (Played messages bundles used refused) pool (results output lengths places reasons) ≡ answered p r
+  pub copied : (output : List ℕ) → output ≡ put r.output 0 (take used filled) → reply (Ok (counts messages bundles used refused)) pool (results output lengths places reasons) ≡ answered p r
   copied output q =
       let o : output ≡ put r.output 0 (joined_octets p.bundles) = q ∙ ap (λ (xs : List ℕ). put r.output 0 xs) front in
       λ i. reply (e i).answer (e i).pool (results (o i) (e i).results.lengths (e i).results.places (e i).results.reasons)

@@ -15,16 +15,16 @@ use Rattle.recording.specs.Recording as Recording
 use Rattle.recording.specs.Recording.{Read, refused, good, read, frames_max, octets_max}
 use Rattle.recording.proofs.Refusals.{number-some, read_number, read_cases, read-in_order}
 use Rattle.frames.specs.Frames.{frames_of}
-use Rattle.playback.specs.declared.Answer.{Answer}
-use Rattle.playback.specs.declared.Answer.TheVariants.{Played, Refused}
+use Rattle.std.specs.Prelude.{Result, Ok, Err}
+use Rattle.playback.specs.declared.Played.{Played}
 use Rattle.playback.specs.declared.Refusal.{Refusal}
 use Rattle.playback.specs.declared.Refusal.TheVariants.{PoolSize, ShortOutput}
 use Rattle.playback.specs.Playback.{all_messages, played}
 use Rattle.playback.specs.Call.{refusal_number, bundles_max, play_window, Results, Reply, reply, answered, played_fresh, unlent, replied, play_frames, play_read, play}
 
-unfoldable pub play_number : Answer → ℕ
-play_number (Played messages bundles octets frames) = 0
-play_number (Refused q) = refusal_number q
+unfoldable pub play_number : Result Played Refusal → ℕ
+play_number (Ok played) = 0
+play_number (Err q) = refusal_number q
 
 -- document 02's table: "fewer are 24; first the reader's numbers, then 2 for the pool"
 abbrev pub lent_cases : List ℕ → Results → List (ℕ × Bool)
@@ -64,32 +64,32 @@ module _ (recording : List ℕ) (limit : ℕ) (pool : List ℕ) (r : Results) wh
   play-in-order = read_first (read recording) refl
 
 -- a call that is refused gives back all that was lent as it was
-pub play-refused : (recording : List ℕ) (limit : ℕ) (pool : List ℕ) (r : Results) (q : Refusal) → (play recording limit pool r).answer ≡ Refused q → play recording limit pool r ≡ reply (Refused q) pool r
+pub play-refused : (recording : List ℕ) (limit : ℕ) (pool : List ℕ) (r : Results) (q : Refusal) → (play recording limit pool r).answer ≡ Err q → play recording limit pool r ≡ reply (Err q) pool r
 unfolding play_read play_frames replied
 play-refused recording limit pool r q = go (read recording)
   where
-    lent : (o : Option Refusal) (t : Recording.Recording) → unlent pool r ≡ o → (play_frames t limit pool r).answer ≡ Refused q → play_frames t limit pool r ≡ reply (Refused q) pool r
-    lent none t e a = absurd (let b = rw e at a in let z : ◌≡◌ {A = ℕ} 0 1 = cc in omega arith)
-    lent (some f) t e a = let b : Refused f ≡ Refused q = rw e at a in rw e (ap (λ (x : Answer). reply x pool r) b)
+    lent : (o : Option Refusal) (t : Recording.Recording) → unlent pool r ≡ o → (play_frames t limit pool r).answer ≡ Err q → play_frames t limit pool r ≡ reply (Err q) pool r
+    lent none t e a = absurd (let b = rw e at a in cc)
+    lent (some f) t e a = let b : Err f ≡ Err q = rw e at a in rw e (ap (λ (x : Result Played Refusal). reply x pool r) b)
 
-    go : (o : Read) → (play_read o limit pool r).answer ≡ Refused q → play_read o limit pool r ≡ reply (Refused q) pool r
-    go (refused f) a = ap (λ (x : Answer). reply x pool r) a
+    go : (o : Read) → (play_read o limit pool r).answer ≡ Err q → play_read o limit pool r ≡ reply (Err q) pool r
+    go (refused f) a = ap (λ (x : Result Played Refusal). reply x pool r) a
     go (good t) a = lent (unlent pool r) t refl a
 
 -- "count in the result equals the definition's treated messages and is at most the limit"
-pub within-limit : (recording : List ℕ) (limit : ℕ) (pool : List ℕ) (r : Results) (messages bundles octets frames : ℕ)
-    → (play recording limit pool r).answer ≡ Played messages bundles octets frames → messages ≤ limit
+pub within-limit : (recording : List ℕ) (limit : ℕ) (pool : List ℕ) (r : Results) (p : Played)
+    → (play recording limit pool r).answer ≡ Ok p → p.messages ≤ limit
 unfolding play_read play_frames replied played
-within-limit recording limit pool r messages bundles octets frames = go (read recording)
+within-limit recording limit pool r p = go (read recording)
   where
-    lent : (o : Option Refusal) (t : Recording.Recording) → unlent pool r ≡ o → (play_frames t limit pool r).answer ≡ Played messages bundles octets frames → messages ≤ limit
-    lent (some f) t e a = absurd (let b = rw e at a in let z : ◌≡◌ {A = ℕ} 0 1 = cc in omega arith)
+    lent : (o : Option Refusal) (t : Recording.Recording) → unlent pool r ≡ o → (play_frames t limit pool r).answer ≡ Ok p → p.messages ≤ limit
+    lent (some f) t e a = absurd (let b = rw e at a in cc)
     lent none t e a =
         let b = rw e at a in
         let all = all_messages (draft Draft02) (frames_of t.lengths t.octets) in
-        let n : length (take limit all) ≡ messages = cc in
+        let n : length (take limit all) ≡ p.messages = cc in
         omega (arith, length-take limit all)
 
-    go : (o : Read) → (play_read o limit pool r).answer ≡ Played messages bundles octets frames → messages ≤ limit
-    go (refused f) a = absurd (let z : ◌≡◌ {A = ℕ} 0 1 = cc in omega arith)
+    go : (o : Read) → (play_read o limit pool r).answer ≡ Ok p → p.messages ≤ limit
+    go (refused f) a = absurd (cc)
     go (good t) a = lent (unlent pool r) t refl a

@@ -1,5 +1,5 @@
 -- The playing call (document 02, E1): a recording on a fresh receiver, its results in lent memory.
-use Rattle.std.specs.Prelude.{cond, not, ◌||◌, List, map, ◌≡◌, ℕ, ◌*◌, ◌≤◌, length, eqb, ltb}
+use Rattle.std.specs.Prelude.{cond, not, ◌||◌, List, map, ◌≡◌, ℕ, ◌*◌, ◌≤◌, length, eqb, ltb, Result, Ok, Err}
 use Rattle.std.proofs.Math.Option.{Option, none, some}
 use Rattle.wire.specs.declared.Version.TheVariants.{Draft02}
 use Rattle.octets.specs.Octets.{sum_of, put}
@@ -12,8 +12,7 @@ use Rattle.recording.specs.Recording.{Recording, Read, refused, good, read, fram
 use Rattle.frames.specs.Frames.{Note, frames_of}
 use Rattle.frames.specs.declared.Reached.{Reached}
 use Rattle.playback.specs.Playback.{Playback, played}
-use Rattle.playback.specs.declared.Answer.{Answer}
-use Rattle.playback.specs.declared.Answer.TheVariants.{Played, Refused}
+use Rattle.playback.specs.declared.Played.{Played}
 use Rattle.playback.specs.declared.Refusal.{Refusal}
 use Rattle.playback.specs.declared.Refusal.TheVariants.{Unreadable, PoolSize, ShortOutput}
 
@@ -49,16 +48,20 @@ resulting p r =
 
 -- the answer, and the lent memory after it
 pub record Reply : Type 0 where
-  pub answer : Answer
+  pub answer : Result Played Refusal
   pub pool : List ℕ
   pub results : Results
 
-abbrev pub reply : Answer → List ℕ → Results → Reply
+abbrev pub reply : Result Played Refusal → List ℕ → Results → Reply
 reply answer pool r = record { answer = answer; pool = pool; results = r }
+
+-- what is reported of a playback
+abbrev pub counts : ℕ → ℕ → ℕ → ℕ → Played
+counts messages bundles octets frames = record { messages = messages; bundles = bundles; octets = octets; refused = frames }
 
 -- "reports how many messages the definition has treated"
 abbrev pub answered : Playback → Results → Reply
-answered p r = reply (Played (length p.messages) (length p.bundles) (length (joined_octets p.bundles)) (length p.notes)) p.board.pool (resulting p r)
+answered p r = reply (Ok (counts (length p.messages) (length p.bundles) (length (joined_octets p.bundles)) (length p.notes))) p.board.pool (resulting p r)
 
 -- "Playback and M13 relied on 16 and must now ask for it by name" (E6)
 abbrev pub play_window : ℕ
@@ -77,13 +80,13 @@ unlent pool r =
 -- a refused call changes nothing
 unfoldable pub replied : Option Refusal → List ℕ → Results → Reply → Reply
 replied none pool r p = p
-replied (some q) pool r p = reply (Refused q) pool r
+replied (some q) pool r p = reply (Err q) pool r
 
 unfoldable pub play_frames : Recording → ℕ → List ℕ → Results → Reply
 play_frames t limit pool r = replied (unlent pool r) pool r (answered (played_fresh limit pool (frames_of t.lengths t.octets)) r)
 
 unfoldable pub play_read : Read → ℕ → List ℕ → Results → Reply
-play_read (refused q) limit pool r = reply (Refused (Unreadable q)) pool r
+play_read (refused q) limit pool r = reply (Err (Unreadable q)) pool r
 play_read (good t) limit pool r = play_frames t limit pool r
 
 abbrev pub play : List ℕ → ℕ → List ℕ → Results → Reply
@@ -107,4 +110,4 @@ pub record Enough (sizes joined pool : List ℕ) (r : Results) : Type 0 where
 
 -- the loop over frames, as the call answers it
 abbrev pub came : Reached → List ℕ → Results → Reply
-came r pool results = reply (Played r.progress.treated r.progress.count r.progress.used r.refused) pool results
+came r pool results = reply (Ok (counts r.progress.treated r.progress.count r.progress.used r.refused)) pool results

@@ -1,16 +1,17 @@
 // Playback of a recording on a fresh receiver (document 02, E1).
 #![tactic(auto)]
 
-ghost use Rattle.std.specs.Prelude.{◌≡◌, ◌≤◌, length};
+ghost use Rattle.std.specs.Prelude.{◌≡◌, ◌≤◌, length, Ok};
 ghost use Rattle.octets.specs.Octets.{sum_of};
 ghost use Rattle.recording.specs.Recording.{frames_max, octets_max};
 ghost use Rattle.frames.specs.Frames.{frames_of};
 ghost use Rattle.playback.specs.Call as Call;
+ghost use Rattle.playback.specs.declared.Refusal.TheVariants.{Unreadable};
 
 use frames::Reached;
 use messages::Limits;
-use recording::{FRAMES_MAX, OCTETS_MAX, Opening};
-use wire::Version;
+use recording::{FRAMES_MAX, OCTETS_MAX};
+use wire::{Frames, Version};
 
 // A playback's window and pool.
 const WINDOW: u32 = 16;
@@ -33,32 +34,38 @@ pub enum Refusal {
     ShortOutput,
 }
 
-// Played: how many messages were treated, how many bundles and octets of them are out, and how many frames were refused.
-#[derive(Clone, Copy)]
-pub enum Answer {
-    Played {
-        messages: usize,
-        bundles: usize,
-        octets: usize,
-        refused: usize,
-    },
-    Refused(Refusal),
-}
+impl From<recording::Refusal> for Refusal {
+    ghost from_gives = { λ reading refusal. refusal ≡ Unreadable reading };
 
-pub fn refusal_number(refusal: Refusal) -> u32
-    ensures { result ≡ Call.refusal_number refusal }
-{
-    match refusal {
-        Refusal::Unreadable(q) => recording::refusal_number(q),
-        Refusal::PoolSize => 2,
-        Refusal::ShortOutput => 24,
+    fn from(reading: recording::Refusal) -> Refusal {
+        Refusal::Unreadable(reading)
     }
 }
 
+impl From<Refusal> for u32 {
+    ghost from_gives = { λ refusal n. n ≡ Call.refusal_number refusal };
+
+    fn from(refusal: Refusal) -> u32 {
+        match refusal {
+            Refusal::Unreadable(reading) => u32::from(reading),
+            Refusal::PoolSize => 2,
+            Refusal::ShortOutput => 24,
+        }
+    }
+}
+
+// How many messages were treated, how many bundles and octets of them are out, and how many frames were refused.
+#[derive(Clone, Copy)]
+pub struct Played {
+    pub messages: usize,
+    pub bundles: usize,
+    pub octets: usize,
+    pub refused: usize,
+}
+
 // Frames on a fresh receiver, with the bundles into a buffer.
-fn play_frames<'a>(
-    sizes: &'a [u16],
-    joined: &'a [u8],
+fn play_frames(
+    frames: Frames,
     limit: usize,
     pool: &mut [u8],
     buffer: &mut [u8],
@@ -66,10 +73,12 @@ fn play_frames<'a>(
     places: &mut [u32],
     reasons: &mut [u32],
 ) -> Reached
-    requires { (Call.Enough sizes.now joined.now pool.old (Call.results buffer.old lengths.old places.old reasons.old))
+    requires { (Call.Enough frames.sizes.now frames.octets.now pool.old
+        (Call.results buffer.old lengths.old places.old reasons.old))
         × (length buffer.old ≡ Call.buffer_size) }
     ensures { (Call.came result pool.new (Call.results buffer.new lengths.new places.new reasons.new)
-        ≡ Call.answered (Call.played_fresh limit pool.old (frames_of sizes.now joined.now))
+        ≡ Call.answered
+        (Call.played_fresh limit pool.old (frames_of frames.entry.sizes.now frames.entry.octets.now))
         (Call.results buffer.old lengths.old places.old reasons.old))
         × (result.progress.used ≤ octets_max) }
 {
@@ -78,13 +87,11 @@ fn play_frames<'a>(
         messages: limit,
         bundles: BUNDLES_LIMIT,
     };
-    let s = receiver::start_as(Version::Draft02, WINDOW);
-    let state = s.state;
+    let state = receiver::start_as(Version::Draft02, WINDOW).unwrap();
     frames::run_frames(
         state,
         pool,
-        sizes,
-        joined,
+        frames,
         0,
         messages::begun(0),
         buffer,
@@ -97,9 +104,8 @@ fn play_frames<'a>(
 }
 
 // The same, with the bundles copied from the buffer to the output.
-fn play_buffered<'a>(
-    sizes: &'a [u16],
-    joined: &'a [u8],
+fn play_buffered(
+    frames: Frames,
     limit: usize,
     buffer: &mut [u8],
     pool: &mut [u8],
@@ -107,57 +113,58 @@ fn play_buffered<'a>(
     lengths: &mut [u16],
     places: &mut [u32],
     reasons: &mut [u32],
-) -> Answer
-    requires { (Call.Enough sizes.now joined.now pool.old (Call.results output.old lengths.old places.old reasons.old))
+) -> Played
+    requires { (Call.Enough frames.sizes.now frames.octets.now pool.old
+        (Call.results output.old lengths.old places.old reasons.old))
         × (length buffer.old ≡ Call.buffer_size)
         × (octets_max ≤ length output.old) }
-    ensures { Call.reply result pool.new (Call.results output.new lengths.new places.new reasons.new)
-        ≡ Call.answered (Call.played_fresh limit pool.old (frames_of sizes.now joined.now))
+    ensures { Call.reply (Ok result) pool.new (Call.results output.new lengths.new places.new reasons.new)
+        ≡ Call.answered
+        (Call.played_fresh limit pool.old (frames_of frames.entry.sizes.now frames.entry.octets.now))
         (Call.results output.old lengths.old places.old reasons.old) }
 {
-    let r = play_frames(sizes, joined, limit, pool, buffer, lengths, places, reasons);
-    let p = r.progress;
-    let used = p.used;
-    octets::copy_long(output, 0, &buffer[..used]);
-    Answer::Played {
-        messages: p.treated,
-        bundles: p.count,
-        octets: used,
-        refused: r.refused,
+    let reached = play_frames(frames, limit, pool, buffer, lengths, places, reasons);
+    let progress = reached.progress;
+    octets::copy_into(output, 0, &buffer[..progress.used]);
+    Played {
+        messages: progress.treated,
+        bundles: progress.count,
+        octets: progress.used,
+        refused: reached.refused,
     }
 }
 
-// Frames from their lengths and their joined octets, if enough is lent for the results.
-fn play_open<'a>(
-    sizes: &'a [u16],
-    joined: &'a [u8],
+// The same, if enough is lent for the results.
+fn play_open(
+    frames: Frames,
     limit: usize,
     pool: &mut [u8],
     output: &mut [u8],
     lengths: &mut [u16],
     places: &mut [u32],
     reasons: &mut [u32],
-) -> Answer
-    requires { (length sizes.now ≤ frames_max)
-        × (sum_of sizes.now ≤ length joined.now)
-        × (length joined.now ≤ octets_max) }
+) -> Result<Played, Refusal>
+    requires { (length frames.sizes.now ≤ frames_max)
+        × (sum_of frames.sizes.now ≤ length frames.octets.now)
+        × (length frames.octets.now ≤ octets_max) }
     ensures { Call.reply result pool.new (Call.results output.new lengths.new places.new reasons.new)
-        ≡ Call.play_frames (record { lengths = sizes.now; octets = joined.now }) limit pool.old
+        ≡ Call.play_frames
+        (record { lengths = frames.entry.sizes.now; octets = frames.entry.octets.now }) limit pool.old
         (Call.results output.old lengths.old places.old reasons.old) }
 {
     if pool.len() != POOL {
-        return Answer::Refused(Refusal::PoolSize);
+        return Err(Refusal::PoolSize);
     }
-    if (output.len() < OCTETS_MAX)
-        | ((lengths.len() < BUNDLES_MAX)
-            | ((places.len() < FRAMES_MAX) | (reasons.len() < FRAMES_MAX)))
+    if output.len() < OCTETS_MAX
+        || lengths.len() < BUNDLES_MAX
+        || places.len() < FRAMES_MAX
+        || reasons.len() < FRAMES_MAX
     {
-        return Answer::Refused(Refusal::ShortOutput);
+        return Err(Refusal::ShortOutput);
     }
     let mut buffer = [0u8; BUFFER];
-    play_buffered(
-        sizes,
-        joined,
+    Ok(play_buffered(
+        frames,
         limit,
         &mut buffer,
         pool,
@@ -165,7 +172,7 @@ fn play_open<'a>(
         lengths,
         places,
         reasons,
-    )
+    ))
 }
 
 // Plays a recording, up to so many messages. Takes 65,536 octets of the stack for the bundles.
@@ -177,30 +184,21 @@ pub fn play(
     lengths: &mut [u16],
     places: &mut [u32],
     reasons: &mut [u32],
-) -> Answer
+) -> Result<Played, Refusal>
     ensures { Call.reply result pool.new (Call.results output.new lengths.new places.new reasons.new)
         ≡ Call.play recording.now limit pool.old
         (Call.results output.old lengths.old places.old reasons.old) }
 {
-    let opened = recording::open(recording);
-    let answer = opened.answer;
-    let sizes = opened.lengths;
-    match answer {
-        Opening::Unreadable(refusal) => {
-            return Answer::Refused(Refusal::Unreadable(refusal));
-        }
-        Opening::Good { frames, octets } => {
-            let joined = recording::octets_of(recording, frames);
-            return play_open(
-                &sizes[..frames],
-                joined,
-                limit,
-                pool,
-                output,
-                lengths,
-                places,
-                reasons,
-            );
-        }
-    }
+    let opened = recording::open(recording)?;
+    let sizes = &opened.lengths[..opened.frames];
+    let octets = recording::octets_of(recording, opened.frames);
+    play_open(
+        Frames { sizes, octets },
+        limit,
+        pool,
+        output,
+        lengths,
+        places,
+        reasons,
+    )
 }

@@ -1,5 +1,5 @@
 -- What a cancel, a segment or an end does to a row and its cell (document 01, "One row"), and how a call answers it.
-use Rattle.std.specs.Prelude.{◌≡◌, Bool, cond, ◌&&◌, ◌||◌, List, ℕ, ◌+◌, length, set}
+use Rattle.std.specs.Prelude.{◌≡◌, Bool, cond, ◌&&◌, ◌||◌, List, ℕ, ◌+◌, length, set, Some, None}
 use Rattle.std.proofs.Math.Option.{Option, none, some}
 use Rattle.octets.specs.Octets.{put}
 use Rattle.pieces.specs.declared.Order.{Order}
@@ -10,8 +10,7 @@ use Rattle.row.specs.declared.Verdict.TheVariants.{Stays, Abandons, Accepts}
 use Rattle.row.specs.declared.Phase.TheVariants.{Open, Done, Cancelled, Abandoned}
 use Rattle.row.specs.Row.{indexes_of, lengths_of, empty_row, is_live, judge}
 use Rattle.reassembly.specs.declared.Taken.{Taken}
-use Rattle.reassembly.specs.declared.Delivery.{Delivery}
-use Rattle.reassembly.specs.declared.Delivery.TheVariants.{Nothing, Bundle}
+use Rattle.reassembly.specs.Delivery.{Delivery}
 
 -- a cancel: Free becomes Cancelled too
 unfoldable pub cancelled : Row → Row
@@ -67,8 +66,8 @@ unfoldable pub cancel_step : Row → List ℕ → Outcome
 cancel_step r cell = silent (cancelled r) cell
 
 unfoldable pub delivery_of : Option (List ℕ) → Delivery
-delivery_of none = Nothing
-delivery_of (some bundle) = Bundle (length bundle)
+delivery_of none = None
+delivery_of (some bundle) = Some (length bundle)
 
 unfoldable pub written : Option (List ℕ) → List ℕ → List ℕ
 written none out = out

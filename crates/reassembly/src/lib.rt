@@ -10,17 +10,10 @@ ghost use Rattle.reassembly.specs.Rules as Spec;
 use pieces::Order;
 use row::{Phase, Row, Verdict};
 
-// What a message completes: a bundle of a length, or nothing.
-#[derive(Clone, Copy)]
-pub enum Delivery {
-    Nothing,
-    Bundle(usize),
-}
-
-// What a segment or an end leaves of its row, and what it completes.
+// What a segment or an end leaves of its row, and the length of the bundle that it completes, if it does.
 #[derive(Clone, Copy)]
 pub struct Taken {
-    pub delivery: Delivery,
+    pub delivery: Option<usize>,
     pub row: Row,
 }
 
@@ -28,21 +21,18 @@ pub struct Taken {
 pub fn cancelled(row: Row) -> Row
     ensures { result ≡ Spec.cancelled row }
 {
-    let phase = row.phase;
-    if row::is_live(phase) {
-        return row::empty_row(Phase::Cancelled);
+    if row::is_live(row.phase) {
+        row::empty_row(Phase::Cancelled)
+    } else {
+        row
     }
-    row
 }
 
 // The final index after a piece.
 fn last_after(last: u8, index: u8, ending: bool) -> u8
     ensures { result ≡ Spec.last_after last index ending }
 {
-    if ending {
-        return index;
-    }
-    last
+    if ending { index } else { last }
 }
 
 // The row and the cell with one piece more, whose octets lie from `at` on. Where that completes the row, its bundle goes to the front
@@ -68,17 +58,17 @@ fn accept(
     indexes[held] = index;
     lengths[held] = n as u16;
     octets::copy_into(cell, at, payload);
-    let known = row.known | ending;
+    let known = row.known || ending;
     let last = last_after(row.last, index, ending);
-    if pieces::is_complete(known, last, &indexes[..], held + 1) {
-        let size = pieces::join(order, &indexes[..], &lengths[..], held + 1, last, cell, out);
+    if pieces::is_complete(known, last, &indexes[..=held]) {
+        let size = pieces::join(order, &indexes[..=held], &lengths[..=held], last, cell, out);
         return Taken {
-            delivery: Delivery::Bundle(size),
+            delivery: Some(size),
             row: row::empty_row(Phase::Done),
         };
     }
     Taken {
-        delivery: Delivery::Nothing,
+        delivery: None,
         row: Row {
             phase: Phase::Open,
             known,
@@ -103,16 +93,15 @@ pub fn take_piece(
     requires { (sound_row row ≡ true) × (length cell.old ≡ bundle_max) × (bundle_max ≤ length out.old) }
     ensures { Spec.Answers (Spec.piece_step order ending index payload.now row cell.old) out.old result cell.new out.new }
 {
-    let v = row::judge(row, index, payload.len(), ending);
-    match v {
+    match row::judge(row, index, payload.len(), ending) {
         Verdict::Stays => Taken {
-            delivery: Delivery::Nothing,
+            delivery: None,
             row,
         },
         Verdict::Abandons => Taken {
-            delivery: Delivery::Nothing,
+            delivery: None,
             row: row::empty_row(Phase::Abandoned),
         },
-        Verdict::Accepts(at) => { accept(order, row, cell, at, index as u8, payload, ending, out) }
+        Verdict::Accepts(at) => accept(order, row, cell, at, index as u8, payload, ending, out),
     }
 }

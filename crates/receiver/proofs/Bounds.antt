@@ -9,11 +9,12 @@ use native.Mathlib.Omega.{arith}
 use lib.ListN.{length}
 use lib.Dec.{eqb, ltb}
 use borrow.Author.Tests.{ltb-false}
+use Rattle.std.proofs.Common.{None, Some, Err, Ok, Result}
 use Rattle.octets.specs.Octets.{Octets}
 use Rattle.octets.proofs.Flags.{neither, cond_elim}
 use Rattle.wire.specs.Message.{Message, skipped, bundle, segment, last, cancel}
-use Rattle.wire.specs.declared.Checked.{Checked}
-use Rattle.wire.specs.declared.Checked.TheVariants as Frame
+use Rattle.wire.specs.declared.Rejection.{Rejection}
+use Rattle.wire.specs.declared.Rejection.TheVariants as Frame
 use Rattle.wire.specs.declared.Fault.{Fault}
 use Rattle.wire.specs.Frame.{Item, items, scanned, checked, frame_max}
 use Rattle.wire.specs.declared.Version.{Version}
@@ -25,11 +26,10 @@ use Rattle.row.specs.declared.Row.{Row}
 use Rattle.reassembly.specs.Rules as Rules
 use Rattle.pieces.specs.Pieces.{bundle_max}
 use Rattle.rows.specs.State.{sound}
-use Rattle.rows.specs.declared.Origin.{Origin}
-use Rattle.rows.specs.declared.Origin.TheVariants.{Whole, Transfer}
+use Rattle.rows.specs.Origin.{Origin}
 use Rattle.rows.specs.Message.{Draft, draft, messages_from, Board, Handed, Outcome, handed_of, moved, in_row, treat_transfer, step}
 use Rattle.receiver.specs.declared.Answer.{Answer}
-use Rattle.receiver.specs.declared.Answer.TheVariants.{Delivered, Finished, Refused}
+use Rattle.receiver.specs.declared.Answer.TheVariants.{Delivered, Finished}
 use Rattle.receiver.specs.declared.Refusal.{Refusal}
 use Rattle.receiver.specs.Receive.{refusal_place, named, Reply, frame_refusal, unfit, replied, delivered, refusal, treat, receive_as}
 use Rattle.receiver.proofs.Calls.{treat-answers}
@@ -40,13 +40,13 @@ abbrev Within : Option Refusal → Type 0
 Within none = Unit {0}
 Within (some q) = named (refusal_place q) < frame_max
 
-frame-within : (c : Checked) → ((q : Fault) (at : ℕ) → c ≡ Frame.Malformed q at → at < frame_max) → Within (frame_refusal c)
+frame-within : (c : Result (Unit {0}) Rejection) → ((q : Fault) (at : ℕ) → c ≡ Err (Frame.Malformed q at) → at < frame_max) → Within (frame_refusal c)
 unfolding frame_refusal
-frame-within Frame.Accepted h = tt
-frame-within (Frame.Malformed q at) h = h q at refl
-frame-within Frame.Misplaced h = omega arith
+frame-within (Ok u) h = tt
+frame-within (Err (Frame.Malformed q at)) h = h q at refl
+frame-within (Err Frame.Misplaced) h = omega arith
 
-refusal_of : (o : Option Refusal) (b : Board) (output : List ℕ) (reply : Reply) (q : Refusal) → (replied o b output reply).answer ≡ Refused q → (reply.answer ≡ Refused q → ⊥) → o ≡ some q
+refusal_of : (o : Option Refusal) (b : Board) (output : List ℕ) (reply : Reply) (q : Refusal) → (replied o b output reply).answer ≡ Err q → (reply.answer ≡ Err q → ⊥) → o ≡ some q
 unfolding replied
 refusal_of none b output reply q e never = absurd (never e)
 refusal_of (some r) b output reply q e never = cc
@@ -65,12 +65,12 @@ module _ (D : Draft) where
       λ _. cond_elim Within (not (eqb (length b.pool) (w * bundle_max)) || ltb (length output) bundle_max) (λ _. omega arith)
       λ _. unfit-within frame place
 
-  pub refused-for : (w : ℕ) (b : Board) (frame : List ℕ) (place : ℕ) (output : List ℕ) (q : Refusal) → (receive_as D w b frame place output).answer ≡ Refused q → refusal D w b frame place output ≡ some q
+  pub refused-for : (w : ℕ) (b : Board) (frame : List ℕ) (place : ℕ) (output : List ℕ) (q : Refusal) → (receive_as D w b frame place output).answer ≡ Err q → refusal D w b frame place output ≡ some q
   unfolding receive_as
   refused-for w b frame place output q e =
       refusal_of (refusal D w b frame place output) b output (treat D w b (messages_from D frame place) output) q e (treat-answers D w b (messages_from D frame place) output q)
 
-  pub place-within : (w : ℕ) (b : Board) (frame : List ℕ) (place : ℕ) (output : List ℕ) (q : Refusal) → (receive_as D w b frame place output).answer ≡ Refused q → named (refusal_place q) < frame_max
+  pub place-within : (w : ℕ) (b : Board) (frame : List ℕ) (place : ℕ) (output : List ℕ) (q : Refusal) → (receive_as D w b frame place output).answer ≡ Err q → named (refusal_place q) < frame_max
   place-within w b frame place output q e = rw (refused-for w b frame place output q e) at (refusal_within w b frame place output)
 
 -- ---- the greatest number
@@ -121,19 +121,19 @@ module _ (w : ℕ) where
 -- ---- the number that a bundle is answered with
 
 abbrev pub LowOrigin : Origin → Type 0
-LowOrigin Whole = Unit {0}
-LowOrigin (Transfer t) = t < 2 ^ 32
+LowOrigin None = Unit {0}
+LowOrigin (Some t) = t < 2 ^ 32
 
 abbrev LowHanded : Option Handed → Type 0
 LowHanded none = Unit {0}
 LowHanded (some h) = LowOrigin h.origin
 
-abbrev pub LowAnswer : Answer → Type 0
-LowAnswer (Delivered length next origin) = LowOrigin origin
-LowAnswer Finished = Unit {0}
-LowAnswer (Refused q) = Unit {0}
+abbrev pub LowAnswer : Result Answer Refusal → Type 0
+LowAnswer (Ok (Delivered length next origin)) = LowOrigin origin
+LowAnswer (Ok Finished) = Unit {0}
+LowAnswer (Err q) = Unit {0}
 
-low_handed : (t : ℕ) → t < 2 ^ 32 → (o : Option (List ℕ)) → LowHanded (handed_of (Transfer t) o)
+low_handed : (t : ℕ) → t < 2 ^ 32 → (o : Option (List ℕ)) → LowHanded (handed_of (Some t) o)
 unfolding handed_of
 low_handed t l none = tt
 low_handed t l (some octets) = l

@@ -9,8 +9,8 @@ use native.Mathlib.Nat.{zero-add, sub-zero}
 use lib.ListN.{length}
 use lib.Dec.{ltb}
 use borrow.Author.Tests.{le-leb, lt-ltb}
+use Rattle.std.proofs.Common.{Ok}
 use Rattle.wire.specs.Frame.{Item, items, checked, Sized}
-use Rattle.wire.specs.declared.Checked.TheVariants.{Accepted}
 use Rattle.wire.proofs.Places.{taken}
 use Rattle.wire.proofs.Order.{leads, few-items, few-from}
 use Rattle.pieces.specs.Pieces.{bundle_max}
@@ -19,10 +19,10 @@ use Rattle.messages.specs.declared.Limits.{Limits}
 use Rattle.receiver.specs.Receive.{Reply, delivered, treat}
 use Rattle.messages.specs.Run.{Run, progressed, advanced, run}
 use Rattle.receiver.specs.Steps.{answer_of}
-use Rattle.rows.specs.declared.Origin.{Origin}
+use Rattle.rows.specs.Origin.{Origin}
 
 abbrev pub reply_of : Run → Reply
-reply_of p = record { answer = answer_of p.progress; board = p.board; output = p.output }
+reply_of p = record { answer = Ok (answer_of p.progress); board = p.board; output = p.output }
 
 -- no bundle is out, and k messages are treated
 abbrev unstarted : ℕ → Board → List ℕ → List ℕ → List ℕ → ℕ → Origin → Run
@@ -59,7 +59,7 @@ module _ (D : Draft) (w : ℕ) (most : ℕ) (lengths numbers : List ℕ) where
       rw (lt-ltb k most (omega arith), sub-zero, le-leb bundle_max (length output) h) (one-turn k b o.board o.handed i.next is output next origin (one-bundle (k + 1) o.board is output i.next origin h (omega arith)))
 
 -- a frame has no more messages than octets
-pub few_messages : (D : Draft) → ((xs : List ℕ) → Sized (length xs) (D.read xs)) → (frame : List ℕ) (place : ℕ) → checked D.read frame place ≡ Accepted → length (messages_from D frame place) ≤ length frame
+pub few_messages : (D : Draft) → ((xs : List ℕ) → Sized (length xs) (D.read xs)) → (frame : List ℕ) (place : ℕ) → checked D.read frame place ≡ Ok (tt {0}) → length (messages_from D frame place) ≤ length frame
 unfolding messages_from items
 few_messages D M frame place e =
     let t = taken D.read M frame place e in

@@ -9,49 +9,35 @@ use native.Mathlib.Omega.{arith}
 use lib.Dec.{eqb, ltb}
 use lib.ListN.{length}
 use borrow.Author.Tests.{eqb-true, eqb-false, ltb-false, not-false}
+use Rattle.std.proofs.Common.{Err, Ok, Result}
 use Rattle.octets.proofs.Flags.{bool, neither, cond_elim}
 use Rattle.octets.proofs.Cases.{first}
 use Rattle.wire.specs.Frame.{checked, frame_max}
 use Rattle.wire.specs.Message.{fault_number}
-use Rattle.wire.specs.declared.Checked.{Checked}
-use Rattle.wire.specs.declared.Checked.TheVariants as Frame
+use Rattle.wire.specs.declared.Rejection.{Rejection}
+use Rattle.wire.specs.declared.Rejection.TheVariants as Frame
 use Rattle.wire.specs.declared.Fault.TheVariants.{ShortHeader, PastFrame, PastMessage, BadContent}
 use Rattle.pieces.specs.Pieces.{bundle_max}
 use Rattle.rows.specs.Message.{Draft, Board, messages_from}
 use Rattle.receiver.specs.Receive.{refusal_number, number_of, frame_refusal, unfit, replied, refusal, treat, receive_as}
-use Rattle.receiver.specs.Steps.{admission}
 use Rattle.rows.specs.State.{sound}
-use Rattle.receiver.specs.declared.Admission.TheVariants.{Admitted, Denied}
-use Rattle.receiver.specs.declared.Answer.TheVariants.{Refused}
 use Rattle.receiver.specs.declared.Refusal.{Refusal}
 use Rattle.receiver.specs.declared.Refusal.TheVariants.{Unsound, BufferSize, FrameSize, Malformed, Misplaced}
 
 clash : {A : Type 0} → true ≡ false → A
 clash e = absurd (let z : ◌≡◌ {A = ℕ} 0 1 = cc in omega arith)
 
--- ---- admission
-
-pub denied : (o : Option Refusal) (q : Refusal) → admission o ≡ Denied q → o ≡ some q
-unfolding admission
-denied none q e = absurd (let z : ◌≡◌ {A = ℕ} 0 1 = cc in omega arith)
-denied (some r) q e = cc
-
-pub admitted : (o : Option Refusal) → admission o ≡ Admitted → o ≡ none
-unfolding admission
-admitted none e = refl
-admitted (some r) e = absurd (let z : ◌≡◌ {A = ℕ} 0 1 = cc in omega arith)
-
 -- what a frame that is not refused has
 pub record Fit (D : Draft) (frame : List ℕ) (place : ℕ) : Type 0 where
   pub some : 0 < length frame
   pub small : length frame ≤ frame_max
-  pub accepted : checked D.read frame place ≡ Frame.Accepted
+  pub accepted : checked D.read frame place ≡ Ok (tt {0})
 
-accepts : (c : Checked) → frame_refusal c ≡ none → c ≡ Frame.Accepted
+accepts : (c : Result (Unit {0}) Rejection) → frame_refusal c ≡ none → c ≡ Ok (tt {0})
 unfolding frame_refusal
-accepts Frame.Accepted e = refl
-accepts (Frame.Malformed f p) e = absurd (let z : ◌≡◌ {A = ℕ} 0 1 = cc in omega arith)
-accepts Frame.Misplaced e = absurd (let z : ◌≡◌ {A = ℕ} 0 1 = cc in omega arith)
+accepts (Ok u) e = refl
+accepts (Err (Frame.Malformed f p)) e = absurd (let z : ◌≡◌ {A = ℕ} 0 1 = cc in omega arith)
+accepts (Err Frame.Misplaced) e = absurd (let z : ◌≡◌ {A = ℕ} 0 1 = cc in omega arith)
 
 never : {A : Type 0} {q : Refusal} → some q ≡ none → A
 never e = absurd (let z : ◌≡◌ {A = ℕ} 0 1 = cc in omega arith)
@@ -67,7 +53,7 @@ fit D frame place e = go (bool (eqb (length frame) 0 || ltb frame_max (length fr
 
 module _ (D : Draft) (w : ℕ) (b : Board) (frame : List ℕ) (place : ℕ) (output : List ℕ) where
   -- a call that is refused gives back state, pool and output as they were
-  pub refused : (q : Refusal) → refusal D w b frame place output ≡ some q → receive_as D w b frame place output ≡ record { answer = Refused q; board = b; output = output }
+  pub refused : (q : Refusal) → refusal D w b frame place output ≡ some q → receive_as D w b frame place output ≡ record { answer = Err q; board = b; output = output }
   unfolding receive_as replied
   refused q e = rw e
 
@@ -102,17 +88,17 @@ module _ (D : Draft) (w : ℕ) (b : Board) (frame : List ℕ) (place : ℕ) (out
 -- ---- the order of the refusals
 
 -- document 01's table: each number, and whether its case holds
-abbrev is_fault : ℕ → Checked → Bool
-is_fault n Frame.Accepted = false
-is_fault n (Frame.Malformed fault at) = eqb (fault_number fault) n
-is_fault n Frame.Misplaced = false
+abbrev is_fault : ℕ → Result (Unit {0}) Rejection → Bool
+is_fault n (Ok u) = false
+is_fault n (Err (Frame.Malformed fault at)) = eqb (fault_number fault) n
+is_fault n (Err Frame.Misplaced) = false
 
-abbrev is_misplaced : Checked → Bool
-is_misplaced Frame.Accepted = false
-is_misplaced (Frame.Malformed fault at) = false
-is_misplaced Frame.Misplaced = true
+abbrev is_misplaced : Result (Unit {0}) Rejection → Bool
+is_misplaced (Ok u) = false
+is_misplaced (Err (Frame.Malformed fault at)) = false
+is_misplaced (Err Frame.Misplaced) = true
 
-abbrev frame_cases : Checked → List (ℕ × Bool)
+abbrev frame_cases : Result (Unit {0}) Rejection → List (ℕ × Bool)
 frame_cases c = (4, is_fault 4 c) ∷ (6, is_fault 6 c) ∷ (7, is_fault 7 c) ∷ (8, is_fault 8 c) ∷ (9, is_misplaced c) ∷ []
 
 -- 0 is no refusal's number
@@ -142,14 +128,14 @@ abbrev NotOne : Option Refusal → Type 0
 NotOne none = Unit {0}
 NotOne (some q) = refusal_number q ≡ 1 → ⊥
 
-frame-not-one : (c : Checked) → NotOne (frame_refusal c)
+frame-not-one : (c : Result (Unit {0}) Rejection) → NotOne (frame_refusal c)
 unfolding frame_refusal
-frame-not-one Frame.Accepted = tt
-frame-not-one (Frame.Malformed ShortHeader at) = λ e. omega arith
-frame-not-one (Frame.Malformed PastFrame at) = λ e. omega arith
-frame-not-one (Frame.Malformed PastMessage at) = λ e. omega arith
-frame-not-one (Frame.Malformed BadContent at) = λ e. omega arith
-frame-not-one Frame.Misplaced = λ e. omega arith
+frame-not-one (Ok u) = tt
+frame-not-one (Err (Frame.Malformed ShortHeader at)) = λ e. omega arith
+frame-not-one (Err (Frame.Malformed PastFrame at)) = λ e. omega arith
+frame-not-one (Err (Frame.Malformed PastMessage at)) = λ e. omega arith
+frame-not-one (Err (Frame.Malformed BadContent at)) = λ e. omega arith
+frame-not-one (Err Frame.Misplaced) = λ e. omega arith
 
 pub sound-not-one : (D : Draft) (w : ℕ) (b : Board) (frame : List ℕ) (place : ℕ) (output : List ℕ) → sound b.state ≡ true
     → (q : Refusal) → refusal D w b frame place output ≡ some q → refusal_number q ≡ 1 → ⊥
@@ -162,14 +148,14 @@ sound-not-one D w b frame place output ok q e =
     λ _. frame-not-one (checked D.read frame place)) in
     rw e at go
 
-frame_order : (c : Checked) → number_of (frame_refusal c) ≡ first (frame_cases c)
+frame_order : (c : Result (Unit {0}) Rejection) → number_of (frame_refusal c) ≡ first (frame_cases c)
 unfolding first frame_refusal
-frame_order Frame.Accepted = refl
-frame_order (Frame.Malformed ShortHeader at) = refl
-frame_order (Frame.Malformed PastFrame at) = refl
-frame_order (Frame.Malformed PastMessage at) = refl
-frame_order (Frame.Malformed BadContent at) = refl
-frame_order Frame.Misplaced = refl
+frame_order (Ok u) = refl
+frame_order (Err (Frame.Malformed ShortHeader at)) = refl
+frame_order (Err (Frame.Malformed PastFrame at)) = refl
+frame_order (Err (Frame.Malformed PastMessage at)) = refl
+frame_order (Err (Frame.Malformed BadContent at)) = refl
+frame_order (Err Frame.Misplaced) = refl
 
 module _ (D : Draft) (w : ℕ) (b : Board) (frame : List ℕ) (place : ℕ) (output : List ℕ) where
   abbrev pub cases : List (ℕ × Bool)

@@ -22,7 +22,7 @@ use Rattle.pieces.specs.Pieces.{bundle_max}
 use Rattle.reassembly.specs.Rules.{piece_step, cancel_step, cancelled}
 use Rattle.reassembly.proofs.Kept.{bundle_size, weight, empty_weight, piece-weight, piece-bundle-fits}
 use Rattle.rows.specs.Message.{Board, Handed, cell_at, freed_from, moved, in_row, treat_transfer, step, handed_of}
-use Rattle.rows.specs.declared.Origin.{Origin}
+use Rattle.rows.specs.Origin.{Origin}
 use Rattle.messages.proofs.Cells.{length-cell}
 use Rattle.receiver.proofs.Ready.{Ready, found-shaped, found-sound, moved_ready}
 

@@ -1,30 +1,38 @@
 -- Start and the receiving call (document 01, "Receiving call" and "Numbers of refusal"), over the draft and the window size w.
-use Rattle.std.specs.Prelude.{cond, not, ◌||◌, List, [], ◌∷◌, ℕ, ◌*◌, length, ltb, eqb}
+use Rattle.std.specs.Prelude.{cond, not, ◌||◌, List, [], ◌∷◌, ℕ, ◌*◌, length, ltb, eqb, Err, Ok, Result}
 use Rattle.std.proofs.Math.Option.{Option, none, some}
 use Rattle.octets.specs.Octets.{put}
 use Rattle.wire.specs.Message.{fault_number}
-use Rattle.wire.specs.declared.Checked.{Checked}
-use Rattle.wire.specs.declared.Checked.TheVariants as Frame
+use Rattle.wire.specs.declared.Rejection.{Rejection}
+use Rattle.wire.specs.declared.Rejection.TheVariants as Frame
 use Rattle.wire.specs.declared.Version.{Version}
 use Rattle.wire.specs.Frame.{Item, checked, frame_max}
 use Rattle.window.specs.Window.{is_window}
 use Rattle.pieces.specs.Pieces.{bundle_max}
 use Rattle.receiver.specs.declared.Answer.{Answer}
-use Rattle.receiver.specs.declared.Answer.TheVariants.{Delivered, Finished, Refused}
+use Rattle.receiver.specs.declared.Answer.TheVariants.{Delivered, Finished}
 use Rattle.receiver.specs.declared.Refusal.{Refusal}
 use Rattle.receiver.specs.declared.Refusal.TheVariants.{Unsound, BufferSize, FrameSize, Malformed, Misplaced}
 use Rattle.receiver.specs.declared.Received.{Received}
-use Rattle.receiver.specs.declared.Started.{Started}
+use Rattle.receiver.specs.declared.WrongWindow.{WrongWindow}
+use Rattle.rows.specs.declared.State.{State}
 use Rattle.rows.specs.State.{sound, window_of, fresh}
 use Rattle.rows.specs.Message.{Draft, draft_of, messages_from, Board, Handed, Outcome, step}
 
+-- refusal 21
+abbrev pub window_refusal : ℕ
+window_refusal = 21
+
 -- "The window becomes 4, 8 or 16, chosen at start and kept in the state, else refusal 21" (document 02, E6); 0 for none
 abbrev pub start_refusal : ℕ → ℕ
-start_refusal w = cond (is_window w) 0 21
+start_refusal w = cond (is_window w) 0 window_refusal
 
--- what a start answers; the state of a refused start is not sound
-abbrev pub start : Version → ℕ → Started
-start v w = record { refusal = start_refusal w; state = fresh v w }
+abbrev pub wrong_window : WrongWindow
+wrong_window = record {}
+
+-- what a start answers
+unfoldable pub start : Version → ℕ → Result State WrongWindow
+start v w = cond (is_window w) (Ok (fresh v w)) (Err wrong_window)
 
 -- document 01's numbers of refusal, and the place that the answer names: the first bad message's start, for 4 to 8
 abbrev pub refusal_number : Refusal → ℕ
@@ -53,7 +61,7 @@ named (some place) = place
 
 -- what a call answers, and the state, the pool and the output that it leaves
 pub record Reply : Type 0 where
-  pub answer : Answer
+  pub answer : Result Answer Refusal
   pub board : Board
   pub output : List ℕ
 
@@ -62,10 +70,13 @@ abbrev pub reply : Received → List ℕ → List ℕ → Reply
 reply r pool output = record { answer = r.answer; board = record { state = r.state; pool = pool }; output = output }
 
 -- refusals 4 to 9, from the check of the whole frame and of the place
-unfoldable pub frame_refusal : Checked → Option Refusal
-frame_refusal Frame.Accepted = none
-frame_refusal (Frame.Malformed fault at) = some (Malformed fault at)
-frame_refusal Frame.Misplaced = some Misplaced
+abbrev pub rejected : Rejection → Refusal
+rejected (Frame.Malformed fault at) = Malformed fault at
+rejected Frame.Misplaced = Misplaced
+
+unfoldable pub frame_refusal : Result (Unit {0}) Rejection → Option Refusal
+frame_refusal (Ok u) = none
+frame_refusal (Err rejection) = some (rejected rejection)
 
 -- refusals 3 to 9: what a frame and a place alone are refused for
 abbrev pub unfit : Draft → List ℕ → ℕ → Option Refusal
@@ -74,12 +85,12 @@ unfit D frame place = cond (eqb (length frame) 0 || ltb frame_max (length frame)
 -- a refused call changes nothing
 unfoldable pub replied : Option Refusal → Board → List ℕ → Reply → Reply
 replied none b output reply = reply
-replied (some refusal) b output reply = record { answer = Refused refusal; board = b; output = output }
+replied (some refusal) b output reply = record { answer = Err refusal; board = b; output = output }
 
 -- a bundle that a message hands out is the answer: the output's first octets hold it, the rest stays. Else the messages behind decide.
 unfoldable pub delivered : Option Handed → Board → ℕ → List ℕ → Reply → Reply
 delivered none b next output later = later
-delivered (some h) b next output later = record { answer = Delivered (length h.octets) next h.origin; board = b; output = put output 0 h.octets }
+delivered (some h) b next output later = record { answer = Ok (Delivered (length h.octets) next h.origin); board = b; output = put output 0 h.octets }
 
 module _ (D : Draft) (w : ℕ) where
   -- the first refusal that applies
@@ -91,7 +102,7 @@ module _ (D : Draft) (w : ℕ) where
 
   -- the messages up to the first handed-out bundle
   unfoldable pub treat : Board → List Item → List ℕ → Reply
-  treat b [] output = record { answer = Finished; board = b; output = output }
+  treat b [] output = record { answer = Ok Finished; board = b; output = output }
   treat b (i ∷ is) output =
       let o : Outcome = step w D.order b i.message in
       delivered o.handed o.board i.next output (treat o.board is output)

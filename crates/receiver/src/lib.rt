@@ -2,6 +2,7 @@
 #![tactic(auto)]
 
 ghost use Rattle.std.specs.Prelude.{◌≡◌, ◌*◌};
+ghost use Rattle.octets.specs.Admission.{admission};
 ghost use Rattle.wire.specs.declared.Version.TheVariants.{Draft02};
 ghost use Rattle.window.specs.Window.{plain_window};
 ghost use Rattle.pieces.specs.Pieces.{bundle_max};
@@ -14,8 +15,8 @@ ghost use Rattle.receiver.specs.Steps as Steps;
 use messages::{Limits, Progress};
 use pieces::BUNDLE_MAX;
 use row::Phase;
-pub use rows::{Origin, Settings, State};
-use wire::{Checked, FRAME_MAX, Fault, Version};
+pub use rows::{Settings, State};
+use wire::{FRAME_MAX, Fault, Rejection, Version};
 
 // Refusals 1, 2, 3, 4 to 8 with the first bad message's start, and 9.
 #[derive(Clone, Copy)]
@@ -27,36 +28,59 @@ pub enum Refusal {
     Misplaced,
 }
 
-// Delivered: a bundle of this length, the next place, and where the bundle comes from.
+// Delivered: a bundle of this length, the next place, and the number of the bundle's transfer, or none for a bundle message.
 #[derive(Clone, Copy)]
 pub enum Answer {
     Delivered {
         length: usize,
         next: usize,
-        origin: Origin,
+        origin: Option<u32>,
     },
     Finished,
-    Refused(Refusal),
 }
 
 #[derive(Clone, Copy)]
 pub struct Received {
-    pub answer: Answer,
+    pub answer: Result<Answer, Refusal>,
     pub state: State,
 }
 
-// Whether a call treats its frame.
+// Refusal 21: a window that is not 4, 8 or 16.
 #[derive(Clone, Copy)]
-pub enum Admission {
-    Admitted,
-    Denied(Refusal),
+pub struct WrongWindow;
+
+// Document 01's number of a refusal.
+impl From<Refusal> for u32 {
+    ghost from_gives = { λ refusal n. n ≡ Call.refusal_number refusal };
+
+    fn from(refusal: Refusal) -> u32 {
+        match refusal {
+            Refusal::Unsound => 1,
+            Refusal::BufferSize => 2,
+            Refusal::FrameSize => 3,
+            Refusal::Malformed(fault, _) => u32::from(fault),
+            Refusal::Misplaced => 9,
+        }
+    }
 }
 
-// Refusal 21, or 0, and the state. The state of a refused start is not sound: every call refuses it.
-#[derive(Clone, Copy)]
-pub struct Started {
-    pub refusal: u32,
-    pub state: State,
+impl From<WrongWindow> for u32 {
+    ghost from_gives = { λ refusal n. n ≡ Call.window_refusal };
+
+    fn from(_refusal: WrongWindow) -> u32 {
+        21
+    }
+}
+
+impl From<Rejection> for Refusal {
+    ghost from_gives = { λ rejection refusal. refusal ≡ Call.rejected rejection };
+
+    fn from(rejection: Rejection) -> Refusal {
+        match rejection {
+            Rejection::Malformed(fault, at) => Refusal::Malformed(fault, at),
+            Rejection::Misplaced => Refusal::Misplaced,
+        }
+    }
 }
 
 fn fresh(version: Version, window: u32) -> State
@@ -71,23 +95,15 @@ fn fresh(version: Version, window: u32) -> State
     }
 }
 
-fn start_refusal(window: u32) -> u32
-    ensures { result ≡ Call.start_refusal window }
-{
-    if window::is_window(window) {
-        return 0;
-    }
-    21
-}
-
 // A receiver of either draft, with a window of 4, 8 or 16.
-pub fn start_as(version: Version, window: u32) -> Started
+#[tactic(auto, unfolding(crate::specs::Receive::start))]
+pub fn start_as(version: Version, window: u32) -> Result<State, WrongWindow>
     ensures { result ≡ Call.start version window }
 {
-    Started {
-        refusal: start_refusal(window),
-        state: fresh(version, window),
+    if window::is_window(window) {
+        return Ok(fresh(version, window));
     }
+    Err(WrongWindow)
 }
 
 // A receiver of draft 02 with the plain window.
@@ -97,24 +113,16 @@ pub fn start() -> State
     fresh(Version::Draft02, window::PLAIN)
 }
 
-fn admitted(c: Checked) -> Admission
-    ensures { result ≡ Steps.admission (Call.frame_refusal c) }
-{
-    match c {
-        Checked::Accepted => Admission::Admitted,
-        Checked::Malformed(fault, at) => Admission::Denied(Refusal::Malformed(fault, at)),
-        Checked::Misplaced => Admission::Denied(Refusal::Misplaced),
-    }
-}
-
 // Refusals 3 to 9.
-pub fn admit_frame(version: Version, frame: &[u8], place: usize) -> Admission
-    ensures { result ≡ Steps.admission (Call.unfit (draft version) frame.now place) }
+#[tactic(auto, unfolding(octets::specs::Admission::admission, crate::specs::Receive::frame_refusal))]
+pub fn admit_frame(version: Version, frame: &[u8], place: usize) -> Result<(), Refusal>
+    ensures { result ≡ admission (Call.unfit (draft version) frame.now place) }
 {
-    if (frame.len() == 0) | (FRAME_MAX < frame.len()) {
-        return Admission::Denied(Refusal::FrameSize);
+    if frame.is_empty() || FRAME_MAX < frame.len() {
+        return Err(Refusal::FrameSize);
     }
-    admitted(wire::check_frame(version, frame, place))
+    wire::check_frame(version, frame, place)?;
+    Ok(())
 }
 
 // The octets of a pool: 4,096 for each row.
@@ -125,43 +133,36 @@ pub fn pool_size(window: u32) -> usize
 }
 
 // The first refusal that applies.
-fn admit(state: State, pool: &[u8], frame: &[u8], place: usize, output: &[u8]) -> Admission
-    ensures { result ≡ Steps.admission (Call.refusal (draft_of state) (window_of state) (record { state = state; pool = pool.now }) frame.now place output.now) }
+#[tactic(auto, unfolding(octets::specs::Admission::admission, crate::specs::Receive::refusal))]
+fn admit(
+    state: &State,
+    pool: &[u8],
+    frame: &[u8],
+    place: usize,
+    output: &[u8],
+) -> Result<(), Refusal>
+    ensures { result ≡ admission (Call.refusal (draft_of state.now) (window_of state.now) (record { state = state.now; pool = pool.now }) frame.now place output.now) }
 {
-    if rows::is_sound(state) {
-        let size = pool_size(state.settings.window);
-        if (pool.len() != size) | (output.len() < BUNDLE_MAX) {
-            return Admission::Denied(Refusal::BufferSize);
-        }
-        return admit_frame(rows::version_of(state), frame, place);
+    if !rows::is_sound(state) {
+        return Err(Refusal::Unsound);
     }
-    Admission::Denied(Refusal::Unsound)
+    if pool.len() != pool_size(state.settings.window) || output.len() < BUNDLE_MAX {
+        return Err(Refusal::BufferSize);
+    }
+    admit_frame(state.settings.version, frame, place)
 }
 
+// Finished where no bundle is out.
 fn answer_of(p: Progress) -> Answer
     ensures { result ≡ Steps.answer_of p }
 {
     if p.count == 0 {
         return Answer::Finished;
     }
-    let origin = p.origin;
     Answer::Delivered {
         length: p.used,
         next: p.next,
-        origin,
-    }
-}
-
-// Document 01's number of a refusal.
-pub fn refusal_number(refusal: Refusal) -> u32
-    ensures { result ≡ Call.refusal_number refusal }
-{
-    match refusal {
-        Refusal::Unsound => 1,
-        Refusal::BufferSize => 2,
-        Refusal::FrameSize => 3,
-        Refusal::Malformed(fault, _) => wire::fault_number(fault),
-        Refusal::Misplaced => 9,
+        origin: p.origin,
     }
 }
 
@@ -175,10 +176,9 @@ pub fn receive(
 ) -> Received
     ensures { Call.reply result pool.new output.new ≡ Call.receive (record { state = state; pool = pool.old }) frame.now place output.old }
 {
-    let a = admit(state, &pool[..], frame, place, &output[..]);
-    if let Admission::Denied(refusal) = a {
+    if let Err(refusal) = admit(&state, pool, frame, place, output) {
         return Received {
-            answer: Answer::Refused(refusal),
+            answer: Err(refusal),
             state,
         };
     }
@@ -198,10 +198,8 @@ pub fn receive(
         &mut numbers,
         limits,
     );
-    let progress = r.progress;
-    let next = r.state;
     Received {
-        answer: answer_of(progress),
-        state: next,
+        answer: Ok(answer_of(r.progress)),
+        state: r.state,
     }
 }

@@ -3,8 +3,6 @@
 
 ghost use Rattle.std.specs.Prelude.{◌≤◌, length, IfOk};
 
-use playback::Answer;
-use recording::{Opening, Writing};
 use std::io;
 
 fn show_octet(rt: &impl Print, octet: u8) -> io::Result<()> {
@@ -22,18 +20,12 @@ fn show_size(rt: &impl Print, size: u16) -> io::Result<()> {
     print!(rt; " {size}")
 }
 
-fn show_sizes(rt: &impl Print, sizes: [u16; 1024], frames: usize) -> io::Result<()> {
+fn show_sizes(rt: &impl Print, sizes: &[u16], frames: usize) -> io::Result<()> {
     print!(rt; "sizes")?;
     for size in sizes.iter().take(frames) {
         show_size(rt, *size)?;
     }
     println!(rt)
-}
-
-fn least(a: usize, b: usize) -> usize
-    ensures { (result ≤ a) × (result ≤ b) }
-{
-    if a < b { a } else { b }
 }
 
 // Shows a bundle of n octets; answers where the next one starts.
@@ -52,9 +44,8 @@ fn show_bundle(rt: &impl Print, output: &[u8], at: usize, n: u16) -> io::Result<
 }
 
 fn show_bundles(rt: &impl Print, output: &[u8], lengths: &[u16], bundles: usize) -> io::Result<()> {
-    let shown = least(bundles, lengths.len());
     let mut at = 0;
-    for n in &lengths[..shown] {
+    for n in lengths.iter().take(bundles) {
         at = show_bundle(rt, output, at, *n)?;
     }
     Ok(())
@@ -88,21 +79,15 @@ fn play(rt: &impl Print, file: &[u8], limit: usize) -> io::Result<()> {
         &mut reasons,
     );
     match answer {
-        Answer::Played {
-            messages,
-            bundles,
-            octets,
-            refused,
-        } => {
+        Ok(played) => {
             println!(rt;
-                "messages {messages} bundles {bundles} octets {octets} refused {refused}"
+                "messages {} bundles {} octets {} refused {}",
+                played.messages, played.bundles, played.octets, played.refused,
             )?;
-            show_bundles(rt, &output, &lengths, bundles)?;
-            show_notes(rt, &places, &reasons, refused)
+            show_bundles(rt, &output, &lengths, played.bundles)?;
+            show_notes(rt, &places, &reasons, played.refused)
         }
-        Answer::Refused(refusal) => {
-            println!(rt; "refused {}", playback::refusal_number(refusal))
-        }
+        Err(refusal) => println!(rt; "refused {}", u32::from(refusal)),
     }
 }
 
@@ -115,15 +100,12 @@ fn play_part(rt: &impl Print, file: &[u8], n: usize) -> io::Result<()> {
 }
 
 fn open(rt: &impl Print, file: &[u8]) -> io::Result<()> {
-    let opened = recording::open(file);
-    match opened.answer {
-        Opening::Good { frames, octets } => {
-            println!(rt; "frames {frames} octets {octets}")?;
-            show_sizes(rt, opened.lengths, frames)
+    match recording::open(file) {
+        Ok(opened) => {
+            println!(rt; "frames {} octets {}", opened.frames, opened.octets)?;
+            show_sizes(rt, &opened.lengths, opened.frames)
         }
-        Opening::Unreadable(refusal) => {
-            println!(rt; "refused {}", recording::refusal_number(refusal))
-        }
+        Err(refusal) => println!(rt; "refused {}", u32::from(refusal)),
     }
 }
 
@@ -132,7 +114,7 @@ fn main(rt: HostRuntime) -> io::Result<()> {
     let joined =
         b"\x02\x00\x00\x03\x41\x42\x43\x03\x00\x00\x03\x00\x00\x09\x00\x00\x00\x05\x00\x00\x00\x00\x41\x00\x00\x04\x00\x00\x09\x00\x00\x00\x05\x00\x00\x00\x01\x42\x02\x00\x00\x00\x05\x00\x00\x03\x00\x00\x00";
     let mut file = [0u8; 69];
-    let Writing::Written { octets } = recording::write(&sizes, joined, &mut file) else {
+    let Ok(octets) = recording::write(&sizes, joined, &mut file) else {
         return Ok(());
     };
     print!(rt; "octets written {octets}:")?;

@@ -1,6 +1,7 @@
 -- What a caller has of a recording that was opened.
 use mathlib.Core.Path.{◌≡◌, refl, sym, ap, ◌∙◌}
 use mathlib.Core.List.{List}
+use Rattle.std.specs.Prelude.{Result, Ok, Err}
 use Prim.Native.Nat.{ℕ, ◌+◌, ◌*◌, ◌≤◌}
 use native.Mathlib.Omega.{arith}
 use lib.ListN.{length, take, drop, length-drop}
@@ -10,7 +11,6 @@ use Rattle.octets.proofs.Put.{read_back, put_reaches}
 use Rattle.octets.proofs.Pairs.{length_pairs}
 use Rattle.recording.specs.declared.Refusal.{Refusal}
 use Rattle.recording.specs.declared.Opened.{Opened}
-use Rattle.recording.specs.declared.Opening.TheVariants.{Good, Unreadable}
 use Rattle.recording.specs.Recording.{Recording, Read, refused, good, frames_max, octets_max, read, blank, opened}
 use Rattle.recording.proofs.Writes.{even-sized}
 use Rattle.recording.proofs.Trips.{reads}
@@ -51,24 +51,25 @@ good_opens xs t n e en =
       small = omega (arith, size, R.counts.small);
     }
 
-pub opens_good : (xs : List ℕ) (o : Opened) (n m : ℕ) → o ≡ opened (read xs) → o.answer ≡ Good n m → Opens xs n o.lengths
+pub opens_good : (xs : List ℕ) (r : Result Opened Refusal) (o : Opened) → r ≡ opened (read xs) → r ≡ Ok o → Opens xs o.frames o.lengths
 unfolding opened
-opens_good xs o n m q a = go (read xs) refl
+opens_good xs r o q a = go (read xs) refl
   where
-    go : (r : Read) → read xs ≡ r → Opens xs n o.lengths
-    go (refused f) e = let b : Unreadable f ≡ Good n m = sym (ap (λ (x : Opened). x.answer) (rw e at q)) ∙ a in absurd (let z : ◌≡◌ {A = ℕ} 0 1 = cc in omega arith)
+    go : (t : Read) → read xs ≡ t → Opens xs o.frames o.lengths
+    go (refused f) e = let b : opened (refused f) ≡ Ok o = sym (rw e at q) ∙ a in absurd (cc)
     go (good t) e =
-        let b : Good (length t.lengths) (length t.octets) ≡ Good n m = sym (ap (λ (x : Opened). x.answer) (rw e at q)) ∙ a in
-        let en : n ≡ length t.lengths = cc in
-        rw (ap (λ (x : Opened). x.lengths) (rw e at q)) (good_opens xs t n e en)
+        let b : opened (good t) ≡ Ok o = sym (rw e at q) ∙ a in
+        let en : o.frames ≡ length t.lengths = cc in
+        let et : o.lengths ≡ put blank 0 t.lengths = cc in
+        rw et (good_opens xs t o.frames e en)
 
-pub opens_not : (xs : List ℕ) (o : Opened) (f : Refusal) → o ≡ opened (read xs) → o.answer ≡ Unreadable f → read xs ≡ refused f
+pub opens_not : (xs : List ℕ) (r : Result Opened Refusal) (f : Refusal) → r ≡ opened (read xs) → r ≡ Err f → read xs ≡ refused f
 unfolding opened
-opens_not xs o f q a = go (read xs) refl
+opens_not xs r f q a = go (read xs) refl
   where
-    go : (r : Read) → read xs ≡ r → read xs ≡ refused f
-    go (refused g) e = let b : Unreadable g ≡ Unreadable f = sym (ap (λ (x : Opened). x.answer) (rw e at q)) ∙ a in let s : g ≡ f = cc in e ∙ ap refused s
-    go (good t) e = let b : Good (length t.lengths) (length t.octets) ≡ Unreadable f = sym (ap (λ (x : Opened). x.answer) (rw e at q)) ∙ a in absurd (let z : ◌≡◌ {A = ℕ} 0 1 = cc in omega arith)
+    go : (t : Read) → read xs ≡ t → read xs ≡ refused f
+    go (refused g) e = let b : opened (refused g) ≡ Err f = sym (rw e at q) ∙ a in let s : g ≡ f = cc in e ∙ ap refused s
+    go (good t) e = let b : opened (good t) ≡ Err f = sym (rw e at q) ∙ a in absurd (cc)
 
 -- the recording from its parts
 pub from_parts : {xs : List ℕ} {n : ℕ} {table : List ℕ} (O : Opens xs n table) (joined : List ℕ) → joined ≡ drop (8 + n * 2) xs → record { lengths = take n table; octets = joined } ≡ O.recording

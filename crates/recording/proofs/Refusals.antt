@@ -4,6 +4,7 @@ use mathlib.Core.Bool.{Bool, true, false, cond, not, ◌||◌}
 use mathlib.Core.Logic.{◌⊎◌, inl, inr}
 use mathlib.Core.Option.{Option, none, some}
 use mathlib.Core.List.{List, [], ◌∷◌}
+use Rattle.std.specs.Prelude.{Result, Ok, Err}
 use Prim.Native.Nat.{ℕ, ◌+◌, ◌*◌, ◌<◌}
 use native.Mathlib.Omega.{arith}
 use lib.ListN.{length, take, drop}
@@ -13,8 +14,6 @@ use Rattle.octets.proofs.Cases.{first}
 use Rattle.octets.proofs.Flags.{bool, cond_elim}
 use Rattle.recording.specs.declared.Refusal.{Refusal}
 use Rattle.recording.specs.declared.Refusal.TheVariants.{CutShort, OverLimit, FrameLength, OctetCount, LeftOver, ShortOutput}
-use Rattle.recording.specs.declared.Writing.{Writing}
-use Rattle.recording.specs.declared.Writing.TheVariants.{Written, Refused}
 use Rattle.recording.specs.Recording.{refusal_number, frames_max, octets_max, Recording, Read, refused, good, sized, uneven, whole, read, written, unwritable, Wrote, writes, write}
 
 -- 0 is no refusal's number
@@ -75,9 +74,9 @@ read-in_order xs =
 
 -- ---- the writer
 
-unfoldable pub write_number : Writing → ℕ
-write_number (Written n) = 0
-write_number (Refused q) = refusal_number q
+unfoldable pub write_number : Result ℕ Refusal → ℕ
+write_number (Ok n) = 0
+write_number (Err q) = refusal_number q
 
 -- "The writer gives 17 to 19 likewise, then 24 for too short an output"
 abbrev pub write_cases : Recording → List ℕ → List (ℕ × Bool)
@@ -108,10 +107,10 @@ write-in_order r output =
     write_order (ltb frames_max (length r.lengths) || ltb octets_max (length r.octets)) (not (sized r.lengths)) (not (eqb (length r.octets) (sum_of r.lengths))) r output
 
 -- "all output not written to stays": all of it, where the call is refused
-pub write-refused : (r : Recording) (output : List ℕ) (q : Refusal) → (write r output).answer ≡ Refused q → (write r output).output ≡ output
+pub write-refused : (r : Recording) (output : List ℕ) (q : Refusal) → (write r output).answer ≡ Err q → (write r output).output ≡ output
 unfolding write writes
 write-refused r output q = go (unwritable r)
   where
-    go : (o : Option Refusal) → (writes o r output).answer ≡ Refused q → (writes o r output).output ≡ output
+    go : (o : Option Refusal) → (writes o r output).answer ≡ Err q → (writes o r output).output ≡ output
     go (some f) e = refl
-    go none e = cond_elim (λ (w : Wrote). w.answer ≡ Refused q → w.output ≡ output) (ltb (length output) (length (written r))) (λ _ _. refl) (λ _ a. absurd (let z : ◌≡◌ {A = ℕ} 0 1 = cc in omega arith)) e
+    go none e = cond_elim (λ (w : Wrote). w.answer ≡ Err q → w.output ≡ output) (ltb (length output) (length (written r))) (λ _ _. refl) (λ _ a. absurd (cc)) e

@@ -15,16 +15,10 @@ use Rattle.octets.proofs.Put.{read_back}
 use Rattle.octets.proofs.Numbers.{octets_drop, number-be32, length-be32, be32-back}
 use Rattle.octets.proofs.Pairs.{length-spread, length_pairs, pairs-back, spread-back}
 use Rattle.recording.specs.declared.Refusal.{Refusal}
-use Rattle.recording.specs.declared.Writing.TheVariants.{Written}
-use Rattle.recording.specs.Recording.{Recording, Read, refused, good, frames_max, octets_max, uneven, whole, read, written, unwritable, Wrote, writes, write, RoundTrips}
+use Rattle.std.specs.Prelude.{Ok}
+use Rattle.recording.specs.Recording.{Recording, Read, good, frames_max, octets_max, uneven, whole, read, written, unwritable, Wrote, writes, write, RoundTrips}
 use Rattle.recording.proofs.Reading.{Counted, parts, counted}
 use Rattle.recording.proofs.Writes.{Writable, writable, writes-back, length-written, sized-at, even-sized}
-
-clash : {A : Type 0} {q : Refusal} {r : Recording} → refused q ≡ good r → A
-clash e = absurd (let z : ◌≡◌ {A = ℕ} 0 1 = cc in omega arith)
-
-good_same : {r s : Recording} → good r ≡ good s → r ≡ s
-good_same e = cc
 
 -- ---- reading what was written
 
@@ -71,9 +65,9 @@ module _ (r : Recording) (f : Writable r) where
 
 whole_good : (q : Option Refusal) (more : Bool) (p r : Recording) → whole q more p ≡ good r → (q ≡ none) × (more ≡ false) × (r ≡ p)
 unfolding whole
-whole_good (some q) more p r e = clash e
-whole_good none true p r e = clash e
-whole_good none false p r e = (refl, refl, sym (good_same e))
+whole_good (some q) more p r e = absurd (cc)
+whole_good none true p r e = absurd (cc)
+whole_good none false p r e = (refl, refl, cc)
 
 -- octets that read as r
 pub record Reads (xs : List ℕ) (n m : ℕ) (r : Recording) : Type 0 where
@@ -88,11 +82,11 @@ reads xs r =
     let n : ℕ = number xs in
     let m : ℕ = number (drop (4 + n * 2) xs) in
     let P : Read → Type 0 = λ (z : Read). z ≡ good r → Reads xs n m r in
-    cond_elim P (ltb (length xs) 4) (λ _ e. clash e)
-    (λ _. cond_elim P (ltb frames_max n) (λ _ e. clash e)
-    (λ few. cond_elim P (ltb (length xs) (8 + n * 2)) (λ _ e. clash e)
-    (λ _. cond_elim P (ltb octets_max m) (λ _ e. clash e)
-    (λ small. cond_elim P (ltb (length xs) (8 + n * 2 + m)) (λ _ e. clash e)
+    cond_elim P (ltb (length xs) 4) (λ _ e. absurd (cc))
+    (λ _. cond_elim P (ltb frames_max n) (λ _ e. absurd (cc))
+    (λ few. cond_elim P (ltb (length xs) (8 + n * 2)) (λ _ e. absurd (cc))
+    (λ _. cond_elim P (ltb octets_max m) (λ _ e. absurd (cc))
+    (λ small. cond_elim P (ltb (length xs) (8 + n * 2 + m)) (λ _ e. absurd (cc))
     (λ there e.
     let w = whole_good (uneven (pairs n (drop 4 xs)) m) (ltb (8 + n * 2 + m) (length xs)) (parts xs n m) r e in
     let low : 8 + n * 2 + m ≤ length xs = ltb-false (length xs) (8 + n * 2 + m) there in
@@ -124,23 +118,23 @@ module _ (xs : List ℕ) (low : Octets xs) (n m : ℕ) (r : Recording) (R : Read
 
 module _ (r : Recording) (output : List ℕ) (n : ℕ) where
   abbrev Done : Wrote → Type 0
-  Done x = x.answer ≡ Written n → (unwritable r ≡ none) × (n ≡ length (written r)) × (x.output ≡ put output 0 (written r))
+  Done x = x.answer ≡ Ok n → (unwritable r ≡ none) × (n ≡ length (written r)) × (x.output ≡ put output 0 (written r))
 
   done : (q : Option Refusal) → unwritable r ≡ q → Done (writes q r output)
   unfolding writes
-  done (some q) e = λ a. absurd (let z : ◌≡◌ {A = ℕ} 0 1 = cc in omega arith)
-  done none e = cond_elim Done (ltb (length output) (length (written r))) (λ _ a. absurd (let z : ◌≡◌ {A = ℕ} 0 1 = cc in omega arith)) (λ _ a. (e, cc, refl))
+  done (some q) e = λ a. absurd (cc)
+  done none e = cond_elim Done (ltb (length output) (length (written r))) (λ _ a. absurd (cc)) (λ _ a. (e, cc, refl))
 
   wrote : Done (write r output)
   unfolding write
   wrote = done (unwritable r) refl
 
-read-written : (r : Recording) (output : List ℕ) (n : ℕ) → (write r output).answer ≡ Written n → read (take n (write r output).output) ≡ good r
+read-written : (r : Recording) (output : List ℕ) (n : ℕ) → (write r output).answer ≡ Ok n → read (take n (write r output).output) ≡ good r
 read-written r output n a =
     let w = wrote r output n a in
     rw (w.1, read_back output (write r output).output (written r) w.2) (back r (writable r w.0))
 
-write_read : (xs : List ℕ) → Octets xs → (r : Recording) → read xs ≡ good r → (output : List ℕ) → length xs ≤ length output → write r output ≡ record { answer = Written (length xs); output = put output 0 xs }
+write_read : (xs : List ℕ) → Octets xs → (r : Recording) → read xs ≡ good r → (output : List ℕ) → length xs ≤ length output → write r output ≡ record { answer = Ok (length xs); output = put output 0 xs }
 unfolding write writes
 write_read xs low r e output room =
     let R = reads xs r e in

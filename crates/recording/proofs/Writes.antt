@@ -1,7 +1,7 @@
 -- What the writer writes: `written` and `unwritable` of specs/Recording.antt.
 use mathlib.Core.Path.{◌≡◌, sym, ◌∙◌}
 use mathlib.Core.Bool.{true, not, ◌&&◌, ◌||◌}
-use mathlib.Core.Option.{Option, none, some}
+use mathlib.Core.Option.{Option, none}
 use mathlib.Core.List.{List, [], ◌∷◌, ◌++◌}
 use Prim.Native.Nat.{ℕ, zero, suc, ◌+◌, ◌*◌, ◌≤◌, ◌<◌}
 use native.Mathlib.Nat.{zero-add}
@@ -17,9 +17,6 @@ use Rattle.octets.proofs.Pairs.{length-spread}
 use Rattle.wire.specs.Frame.{frame_max}
 use Rattle.recording.specs.declared.Refusal.{Refusal}
 use Rattle.recording.specs.Recording.{Recording, frames_max, octets_max, sized, uneven, written, unwritable}
-
-pub clash : {A : Type 0} {q : Refusal} → ◌≡◌ {A = Option Refusal} (some q) none → A
-clash e = absurd (let z : ◌≡◌ {A = ℕ} 0 1 = cc in omega arith)
 
 -- ---- what is written
 
@@ -55,7 +52,7 @@ pub record Writable (r : Recording) : Type 0 where
 pub writable : (r : Recording) → unwritable r ≡ none → Writable r
 unfolding unwritable
 writable r =
-    cond_elim (λ (z : Option Refusal). z ≡ none → Writable r) (ltb frames_max (length r.lengths) || ltb octets_max (length r.octets)) (λ _ e. clash e)
+    cond_elim (λ (z : Option Refusal). z ≡ none → Writable r) (ltb frames_max (length r.lengths) || ltb octets_max (length r.octets)) (λ _ e. absurd (cc))
     (λ t e. let n = neither _ (ltb octets_max (length r.octets)) t in record { few = ltb-false frames_max (length r.lengths) n.0; small = ltb-false octets_max (length r.octets) n.1; even = e })
 
 pub writes-back : (r : Recording) → Writable r → unwritable r ≡ none
@@ -72,6 +69,6 @@ sized-at (n ∷ ns) e (suc k) h = sized-at ns (both (leb 1 n && leb n frame_max)
 pub even-sized : (ns : List ℕ) (m : ℕ) → uneven ns m ≡ none → (sized ns ≡ true) × (m ≡ sum_of ns)
 unfolding uneven
 even-sized ns m =
-    cond_elim (λ (z : Option Refusal). z ≡ none → (sized ns ≡ true) × (m ≡ sum_of ns)) (not (sized ns)) (λ _ e. clash e)
-    (λ s. cond_elim (λ (z : Option Refusal). z ≡ none → (sized ns ≡ true) × (m ≡ sum_of ns)) (not (eqb m (sum_of ns))) (λ _ e. clash e)
+    cond_elim (λ (z : Option Refusal). z ≡ none → (sized ns ≡ true) × (m ≡ sum_of ns)) (not (sized ns)) (λ _ e. absurd (cc))
+    (λ s. cond_elim (λ (z : Option Refusal). z ≡ none → (sized ns ≡ true) × (m ≡ sum_of ns)) (not (eqb m (sum_of ns))) (λ _ e. absurd (cc))
     (λ t _. (not-false (sized ns) s, eqb-true m (sum_of ns) (not-false (eqb m (sum_of ns)) t))))

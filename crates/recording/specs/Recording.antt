@@ -1,14 +1,9 @@
 -- Recordings (document 02, E1): "a count of frames (32 bits), that many 16-bit lengths, a count of octets (32 bits) and the octets, big-endian".
-use Rattle.std.specs.Prelude.{Bool, true, cond, not, ◌&&◌, ◌||◌, List, [], ◌∷◌, ◌++◌, ◌≡◌, ℕ, ◌+◌, ◌*◌, ◌≤◌, length, take, drop, replicate, ltb, leb, eqb}
+use Rattle.std.specs.Prelude.{Bool, true, cond, not, ◌&&◌, ◌||◌, List, [], ◌∷◌, ◌++◌, ◌≡◌, ℕ, ◌+◌, ◌*◌, ◌≤◌, length, take, drop, replicate, ltb, leb, eqb, Result, Ok, Err}
 use Rattle.std.proofs.Math.Option.{Option, none, some}
 use Rattle.octets.specs.Octets.{Octets, number, be32, pairs, spread, put, sum_of}
 use Rattle.wire.specs.Frame.{frame_max}
 use Rattle.recording.specs.declared.Opened.{Opened}
-use Rattle.recording.specs.declared.Opening.TheVariants.{Good, Unreadable}
-use Rattle.recording.specs.declared.Writing.{Writing}
-use Rattle.recording.specs.declared.Writing.TheVariants.{Written, Refused}
-use Rattle.recording.specs.declared.Verdict.{Verdict}
-use Rattle.recording.specs.declared.Verdict.TheVariants.{Fit, Unfit}
 use Rattle.recording.specs.declared.Refusal.{Refusal}
 use Rattle.recording.specs.declared.Refusal.TheVariants.{CutShort, OverLimit, FrameLength, OctetCount, LeftOver, ShortOutput}
 
@@ -47,9 +42,9 @@ unfoldable pub uneven : List ℕ → ℕ → Option Refusal
 uneven lengths count = cond (not (sized lengths)) (some FrameLength) (cond (not (eqb count (sum_of lengths))) (some OctetCount) none)
 
 -- as the code answers it
-unfoldable pub verdict : Option Refusal → Verdict
-verdict none = Fit
-verdict (some q) = Unfit q
+unfoldable pub verdict : Option Refusal → Result (Unit {0}) Refusal
+verdict none = Ok tt
+verdict (some q) = Err q
 
 -- ---- the reader
 
@@ -75,10 +70,17 @@ read xs =
 unfoldable pub blank : List ℕ
 blank = replicate frames_max 0
 
--- as the code answers it: how many frames and octets there are, and the lengths with zeros behind them
-unfoldable pub opened : Read → Opened
-opened (refused q) = record { answer = Unreadable q; lengths = blank }
-opened (good r) = record { answer = Good (length r.lengths) (length r.octets); lengths = put blank 0 r.lengths }
+-- as the code answers it: the lengths with zeros behind them, and how many frames and octets there are
+unfoldable pub opened : Read → Result Opened Refusal
+opened (refused q) = Err q
+opened (good r) = Ok (record { lengths = put blank 0 r.lengths; frames = length r.lengths; octets = length r.octets })
+
+-- on the way of the code: a count at a position, at most its limit
+unfoldable pub count_at : ℕ → ℕ → List ℕ → Result ℕ Refusal
+count_at at limit xs =
+    cond (ltb (length xs) (at + 4)) (Err CutShort)
+    (cond (ltb limit (number (drop at xs))) (Err OverLimit)
+    (Ok (number (drop at xs))))
 
 -- ---- the writer
 
@@ -91,16 +93,16 @@ unwritable r = cond (ltb frames_max (length r.lengths) || ltb octets_max (length
 
 -- the answer, and the output after it
 pub record Wrote : Type 0 where
-  pub answer : Writing
+  pub answer : Result ℕ Refusal
   pub output : List ℕ
 
 -- "then 24 for too short an output; all output not written to stays"
 unfoldable pub writes : Option Refusal → Recording → List ℕ → Wrote
-writes (some q) r output = record { answer = Refused q; output = output }
+writes (some q) r output = record { answer = Err q; output = output }
 writes none r output =
     cond (ltb (length output) (length (written r)))
-    (record { answer = Refused ShortOutput; output = output })
-    (record { answer = Written (length (written r)); output = put output 0 (written r) })
+    (record { answer = Err ShortOutput; output = output })
+    (record { answer = Ok (length (written r)); output = put output 0 (written r) })
 
 unfoldable pub write : Recording → List ℕ → Wrote
 write r output = writes (unwritable r) r output
@@ -108,6 +110,6 @@ write r output = writes (unwritable r) r output
 -- ---- "Reading what was written, and writing what was read, give the same back."
 
 pub record RoundTrips : Type 0 where
-  pub written-reads : (r : Recording) (output : List ℕ) (n : ℕ) → (write r output).answer ≡ Written n → read (take n (write r output).output) ≡ good r
+  pub written-reads : (r : Recording) (output : List ℕ) (n : ℕ) → (write r output).answer ≡ Ok n → read (take n (write r output).output) ≡ good r
   pub read-writes : (xs : List ℕ) → Octets xs → (r : Recording) → read xs ≡ good r
-      → (output : List ℕ) → length xs ≤ length output → write r output ≡ record { answer = Written (length xs); output = put output 0 xs }
+      → (output : List ℕ) → length xs ≤ length output → write r output ≡ record { answer = Ok (length xs); output = put output 0 xs }

@@ -1,12 +1,11 @@
 // Recordings: frames in a file (document 02, E1).
 #![tactic(auto)]
 
-ghost use Rattle.std.specs.Prelude.{◌≡◌, ◌+◌, ◌*◌, ◌≤◌, length, drop};
+ghost use Rattle.std.specs.Prelude.{◌≡◌, ◌+◌, ◌*◌, ◌^◌, ◌<◌, ◌≤◌, length, drop};
 ghost use Rattle.octets.specs.Octets.{pairs, put};
 ghost use Rattle.recording.specs.Recording as Spec;
-ghost use Rattle.recording.specs.declared.Opening.TheVariants.{Unreadable};
 
-use wire::FRAME_MAX;
+use wire::{FRAME_MAX, Frames};
 
 // The most frames and the most octets of a recording.
 pub const FRAMES_MAX: usize = 1024;
@@ -24,72 +23,51 @@ pub enum Refusal {
     ShortOutput,
 }
 
-pub fn refusal_number(refusal: Refusal) -> u32
-    ensures { result ≡ Spec.refusal_number refusal }
-{
-    match refusal {
-        Refusal::CutShort => 16,
-        Refusal::OverLimit => 17,
-        Refusal::FrameLength => 18,
-        Refusal::OctetCount => 19,
-        Refusal::LeftOver => 20,
-        Refusal::ShortOutput => 24,
+impl From<Refusal> for u32 {
+    ghost from_gives = { λ refusal n. n ≡ Spec.refusal_number refusal };
+
+    fn from(refusal: Refusal) -> u32 {
+        match refusal {
+            Refusal::CutShort => 16,
+            Refusal::OverLimit => 17,
+            Refusal::FrameLength => 18,
+            Refusal::OctetCount => 19,
+            Refusal::LeftOver => 20,
+            Refusal::ShortOutput => 24,
+        }
     }
 }
 
-// Whether lengths and octets belong together.
-#[derive(Clone, Copy)]
-enum Verdict {
-    Fit,
-    Unfit(Refusal),
-}
-
-// A recording that was read. Its octets start at 8 + 2 * frames.
-#[derive(Clone, Copy)]
-pub enum Opening {
-    Good { frames: usize, octets: usize },
-    Unreadable(Refusal),
-}
-
-// The lengths of the frames, and zeros behind them.
+// A recording that was read: the lengths of its frames with zeros behind them, and how many frames and octets there are.
 #[derive(Clone, Copy)]
 pub struct Opened {
-    pub answer: Opening,
     pub lengths: [u16; FRAMES_MAX],
-}
-
-#[derive(Clone, Copy)]
-pub enum Writing {
-    Written { octets: usize },
-    Refused(Refusal),
+    pub frames: usize,
+    pub octets: usize,
 }
 
 // Whether every length is 1 to 2,048.
 fn all_sized(lengths: &[u16]) -> bool
     ensures { result ≡ Spec.sized lengths.now }
 {
-    let mut good = true;
-    let mut k = 0;
-    while k < lengths.len() {
-        let n = lengths[k] as usize;
-        good = good & ((1 <= n) & (n <= FRAME_MAX));
-        k += 1;
-    }
-    good
+    lengths
+        .iter()
+        .all(|length| 1 <= *length && *length as usize <= FRAME_MAX)
 }
 
 // Refusals 18 and 19.
-fn weigh(lengths: &[u16], count: usize) -> Verdict
+#[tactic(auto, unfolding(crate::specs::Recording::uneven, crate::specs::Recording::verdict))]
+fn weigh(lengths: &[u16], count: usize) -> Result<(), Refusal>
     requires { length lengths.now ≤ Spec.frames_max }
     ensures { result ≡ Spec.verdict (Spec.uneven lengths.now count) }
 {
-    if all_sized(lengths) {
-        if count == octets::sum_of(lengths, lengths.len()) {
-            return Verdict::Fit;
-        }
-        return Verdict::Unfit(Refusal::OctetCount);
+    if !all_sized(lengths) {
+        return Err(Refusal::FrameLength);
     }
-    Verdict::Unfit(Refusal::FrameLength)
+    if count != octets::sum_of(lengths) {
+        return Err(Refusal::OctetCount);
+    }
+    Ok(())
 }
 
 // The first n lengths, and zeros behind them.
@@ -98,60 +76,57 @@ fn lengths_of(recording: &[u8], n: usize) -> [u16; FRAMES_MAX]
     ensures { result ≡ put Spec.blank 0 (pairs n (drop 4 recording.now)) }
 {
     let mut lengths = [0u16; FRAMES_MAX];
-    let mut j = 0;
-    while j < n {
-        lengths[j] = octets::number16_at(recording, 4 + j * 2);
-        j += 1;
+    for (j, length) in lengths[..n].iter_mut().enumerate() {
+        *length = octets::number16_at(recording, 4 + j * 2);
     }
     lengths
 }
 
-fn unreadable(refusal: Refusal) -> Opened
-    ensures { result ≡ record { answer = Unreadable refusal; lengths = Spec.blank } }
+// A count at a position, and refusals 16 and 17.
+#[tactic(auto, unfolding(crate::specs::Recording::count_at))]
+fn count_at(recording: &[u8], at: usize, limit: usize) -> Result<usize, Refusal>
+    requires { at < 2 ^ 32 }
+    ensures { result ≡ Spec.count_at at limit recording.now }
 {
-    Opened {
-        answer: Opening::Unreadable(refusal),
-        lengths: [0u16; FRAMES_MAX],
+    if recording.len() < at + 4 {
+        return Err(Refusal::CutShort);
     }
+    let count = octets::number_at(recording, at) as usize;
+    if limit < count {
+        return Err(Refusal::OverLimit);
+    }
+    Ok(count)
 }
 
-pub fn open(recording: &[u8]) -> Opened
+// Where the octets start in a recording of so many frames: behind two counts of four octets and the lengths.
+pub fn octets_start(frames: usize) -> usize
+    requires { 8 + frames * 2 < 2 ^ 64 }
+    ensures { result ≡ 8 + frames * 2 }
+{
+    8 + frames * 2
+}
+
+pub fn open(recording: &[u8]) -> Result<Opened, Refusal>
     ensures { result ≡ Spec.opened (Spec.read recording.now) }
 {
+    let frames = count_at(recording, 0, FRAMES_MAX)?;
+    let start = octets_start(frames);
+    let octets = count_at(recording, start - 4, OCTETS_MAX)?;
     let size = recording.len();
-    if size < 4 {
-        return unreadable(Refusal::CutShort);
-    }
-    let n = octets::number_at(recording, 0) as usize;
-    if FRAMES_MAX < n {
-        return unreadable(Refusal::OverLimit);
-    }
-    if size < 8 + n * 2 {
-        return unreadable(Refusal::CutShort);
-    }
-    let m = octets::number_at(recording, 4 + n * 2) as usize;
-    if OCTETS_MAX < m {
-        return unreadable(Refusal::OverLimit);
-    }
-    let end = 8 + n * 2 + m;
+    let end = start + octets;
     if size < end {
-        return unreadable(Refusal::CutShort);
+        return Err(Refusal::CutShort);
     }
-    let lengths = lengths_of(recording, n);
-    let v = weigh(&lengths[..n], m);
-    if let Verdict::Unfit(refusal) = v {
-        return unreadable(refusal);
-    }
+    let lengths = lengths_of(recording, frames);
+    weigh(&lengths[..frames], octets)?;
     if end < size {
-        return unreadable(Refusal::LeftOver);
+        return Err(Refusal::LeftOver);
     }
-    Opened {
-        answer: Opening::Good {
-            frames: n,
-            octets: m,
-        },
+    Ok(Opened {
         lengths,
-    }
+        frames,
+        octets,
+    })
 }
 
 // The octets of a recording of so many frames.
@@ -159,38 +134,40 @@ pub fn octets_of(recording: &[u8], frames: usize) -> &[u8]
     requires { 8 + frames * 2 ≤ length recording.now }
     ensures { result.now ≡ drop (8 + frames * 2) recording.now }
 {
-    let start = 8 + frames * 2;
+    let start = octets_start(frames);
     &recording[start..]
 }
 
 // Refusals 17 to 19.
-fn unwritable<'a>(lengths: &'a [u16], joined: &'a [u8]) -> Verdict
-    ensures { result ≡ Spec.verdict (Spec.unwritable (record { lengths = lengths.now; octets = joined.now })) }
+fn unwritable(frames: Frames) -> Result<(), Refusal>
+    ensures { result ≡ Spec.verdict (Spec.unwritable
+        (record { lengths = frames.entry.sizes.now; octets = frames.entry.octets.now })) }
 {
-    if (FRAMES_MAX < lengths.len()) | (OCTETS_MAX < joined.len()) {
-        return Verdict::Unfit(Refusal::OverLimit);
+    if FRAMES_MAX < frames.sizes.len() || OCTETS_MAX < frames.octets.len() {
+        return Err(Refusal::OverLimit);
     }
-    weigh(lengths, joined.len())
+    weigh(frames.sizes, frames.octets.len())
 }
 
-// Frames from their lengths and their joined octets.
-pub fn write<'a>(lengths: &'a [u16], joined: &'a [u8], output: &mut [u8]) -> Writing
+// Frames from their lengths and their joined octets. Gives how many octets are written.
+pub fn write(lengths: &[u16], joined: &[u8], output: &mut [u8]) -> Result<usize, Refusal>
     ensures { ◌≡◌ {A = Spec.Wrote} (record { answer = result; output = output.new })
         (Spec.write (record { lengths = lengths.now; octets = joined.now }) output.old) }
 {
-    let v = unwritable(lengths, joined);
-    if let Verdict::Unfit(refusal) = v {
-        return Writing::Refused(refusal);
-    }
+    unwritable(Frames {
+        sizes: lengths,
+        octets: joined,
+    })?;
     let n = lengths.len();
     let m = joined.len();
-    let total = 8 + n * 2 + m;
+    let start = octets_start(n);
+    let total = start + m;
     if output.len() < total {
-        return Writing::Refused(Refusal::ShortOutput);
+        return Err(Refusal::ShortOutput);
     }
     octets::put_number(output, 0, n as u32);
     octets::put_pairs(output, 4, lengths);
-    octets::put_number(output, 4 + n * 2, m as u32);
-    octets::copy_long(output, 8 + n * 2, joined);
-    Writing::Written { octets: total }
+    octets::put_number(output, start - 4, m as u32);
+    octets::copy_into(output, start, joined);
+    Ok(total)
 }

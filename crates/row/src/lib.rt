@@ -5,7 +5,7 @@ ghost use Rattle.std.specs.Prelude.{◌≡◌, true, false, ◌≤◌};
 ghost use Rattle.pieces.specs.Pieces.{has_above};
 ghost use Rattle.row.specs.Row as Spec;
 
-use pieces::{BUNDLE_MAX, Scan};
+use pieces::{BUNDLE_MAX, INDEX_COUNT, Scan};
 
 // What a row is about. Abandoned is document 01's "Given up".
 #[derive(Clone, Copy)]
@@ -17,17 +17,18 @@ pub enum Phase {
     Abandoned,
 }
 
-// The pieces held, in order of arrival: the first `held` entries of indexes and lengths.
-// The final index has a meaning where it is known. The count stands between the arrays: the compiler then copies each of them by itself,
-// without a call.
+// The pieces held, in order of arrival: the first `held` entries of indexes and lengths. Arrays and a count, and no vector, since memory
+// is fixed and an image has all 64 entries. The count stands between the arrays: the compiler then copies each of them by itself,
+// without a call. The final index has a meaning where it is known; the two stand apart, and are no Option: `sound_row` refuses a row in which
+// they do not fit.
 #[derive(Clone, Copy)]
 pub struct Row {
     pub phase: Phase,
     pub known: bool,
     pub last: u8,
-    pub indexes: [u8; 64],
+    pub indexes: [u8; INDEX_COUNT],
     pub held: usize,
-    pub lengths: [u16; 64],
+    pub lengths: [u16; INDEX_COUNT],
 }
 
 // What the row rules say of a segment or an end. Accepts: its data goes to this offset of the cell.
@@ -47,8 +48,8 @@ pub fn empty_row(phase: Phase) -> Row
         known: false,
         last: 0,
         held: 0,
-        indexes: [0u8; 64],
-        lengths: [0u16; 64],
+        indexes: [0; INDEX_COUNT],
+        lengths: [0; INDEX_COUNT],
     }
 }
 
@@ -56,35 +57,23 @@ pub fn empty_row(phase: Phase) -> Row
 pub fn is_live(phase: Phase) -> bool
     ensures { result ≡ Spec.is_live phase }
 {
-    match phase {
-        Phase::Free => true,
-        Phase::Open => true,
-        Phase::Done => false,
-        Phase::Cancelled => false,
-        Phase::Abandoned => false,
-    }
+    matches!(phase, Phase::Free | Phase::Open)
 }
 
 fn is_open(phase: Phase) -> bool
     ensures { result ≡ Spec.is_open phase }
 {
-    match phase {
-        Phase::Free => false,
-        Phase::Open => true,
-        Phase::Done => false,
-        Phase::Cancelled => false,
-        Phase::Abandoned => false,
-    }
+    matches!(phase, Phase::Open)
 }
 
 // The four contradictions of a segment or an end with this index.
 fn contradicts(known: bool, last: u8, scan: Scan, index: u8, ending: bool) -> bool
     ensures { result ≡ Spec.contradiction known last scan.held scan.above index ending }
 {
-    (known & (last < index))
-        | (ending & known & (index != last))
-        | (ending & scan.above)
-        | (scan.held & (ending != (known & (last == index))))
+    (known && last < index)
+        || (ending && known && index != last)
+        || (ending && scan.above)
+        || (scan.held && ending != (known && last == index))
 }
 
 // Steps 2 to 6 of the row rules, for a row that takes messages.
@@ -96,15 +85,14 @@ fn judge_live(row: Row, index: u32, length: usize, ending: bool) -> Verdict
         return Verdict::Abandons;
     }
     let i = index as u8;
-    let held = row.held;
-    let scan = pieces::scan_for(&row.indexes[..], held, i);
+    let scan = pieces::scan_for(&row.indexes[..row.held], i);
     if contradicts(row.known, row.last, scan, i, ending) {
         return Verdict::Abandons;
     }
     if scan.held {
         return Verdict::Stays;
     }
-    let at = octets::sum_of(&row.lengths[..], held);
+    let at = octets::sum_of(&row.lengths[..row.held]);
     if BUNDLE_MAX - at < length {
         return Verdict::Abandons;
     }
@@ -116,11 +104,11 @@ pub fn judge(row: Row, index: u32, length: usize, ending: bool) -> Verdict
     requires { Spec.sound_row row ≡ true }
     ensures { result ≡ Spec.judge row ending index length }
 {
-    let phase = row.phase;
-    if is_live(phase) {
-        return judge_live(row, index, length, ending);
+    if is_live(row.phase) {
+        judge_live(row, index, length, ending)
+    } else {
+        Verdict::Stays
     }
-    Verdict::Stays
 }
 
 // ---- sound rows
@@ -130,20 +118,12 @@ fn sound_last(row: Row) -> bool
     requires { (row.held ≤ 64) × (has_above 63 (Spec.indexes_of row) ≡ false) }
     ensures { result ≡ Spec.sound_last row.known row.last (Spec.indexes_of row) }
 {
-    let held = row.held;
-    let last = row.last;
-    if row.known {
-        let s = pieces::scan_for(&row.indexes[..], held, last);
-        if s.held {
-            if s.above {
-                return false;
-            }
-            let all = pieces::is_complete(row.known, last, &row.indexes[..], held);
-            return !all;
-        }
-        return false;
+    if !row.known {
+        return row.last == 0;
     }
-    last == 0
+    let indexes = &row.indexes[..row.held];
+    let scan = pieces::scan_for(indexes, row.last);
+    scan.held && !scan.above && !pieces::is_complete(row.known, row.last, indexes)
 }
 
 // The pieces of an open row.
@@ -152,41 +132,31 @@ fn sound_pieces(row: Row) -> bool
     ensures { result ≡ Spec.sound_pieces row }
 {
     let held = row.held;
-    if pieces::distinct(&row.indexes[..], held) {
-        let sum = octets::sum_of(&row.lengths[..], held);
-        let zero = pieces::zero_from(&row.indexes[..], &row.lengths[..], held);
-        return (sum <= BUNDLE_MAX) & zero;
-    }
-    false
+    pieces::distinct(&row.indexes[..held])
+        && octets::sum_of(&row.lengths[..held]) <= BUNDLE_MAX
+        && pieces::are_zero(&row.indexes[held..], &row.lengths[held..])
 }
 
 fn sound_open(row: Row) -> bool
     ensures { result ≡ Spec.sound_open row }
 {
-    let held = row.held;
-    if (1 <= held) & (held <= 64) {
-        if sound_pieces(row) {
-            return sound_last(row);
-        }
-    }
-    false
+    (1..=INDEX_COUNT).contains(&row.held) && sound_pieces(row) && sound_last(row)
 }
 
 // A row that is not open has zero entries.
 fn sound_empty(row: Row) -> bool
     ensures { result ≡ Spec.sound_empty row }
 {
-    let zero = pieces::zero_from(&row.indexes[..], &row.lengths[..], 0);
-    !row.known & (row.last == 0) & (row.held == 0) & zero
+    !row.known && row.last == 0 && row.held == 0 && pieces::are_zero(&row.indexes, &row.lengths)
 }
 
 // Whether a row is sound, for any numbers in it.
 pub fn sound_row(row: Row) -> bool
     ensures { result ≡ Spec.sound_row row }
 {
-    let phase = row.phase;
-    if is_open(phase) {
-        return sound_open(row);
+    if is_open(row.phase) {
+        sound_open(row)
+    } else {
+        sound_empty(row)
     }
-    sound_empty(row)
 }

@@ -3,7 +3,7 @@ use mathlib.Core.Bool.{Bool, true, false, cond, ◌&&◌, ◌||◌, and-true, an
 use mathlib.Core.List.{List, [], ◌∷◌, map}
 use mathlib.Core.Logic.{◌⊎◌, inl, inr}
 use mathlib.Core.Path.{◌≡◌, refl, sym, ap, ◌∙◌}
-use Prim.Native.Nat.{ℕ, zero, suc, ◌+◌, ◌%◌, ◌≤◌, ◌<◌}
+use Prim.Native.Nat.{ℕ, zero, suc, min, ◌+◌, ◌%◌, ◌≤◌, ◌<◌}
 use native.Mathlib.Nat.{add-zero}
 use native.Mathlib.Numerals.{add-one}
 use native.Mathlib.Omega.{arith}
@@ -155,13 +155,6 @@ freed_at w g d rows i h = get_or_freed w 0 g d rows i (empty_row Free) h ∙ rw 
     zero-add : (n : ℕ) → 0 + n ≡ n
     zero-add n = omega arith
 
-pub least-le : (d w : ℕ) → cond (ltb d w) d w ≤ w
-least-le d w = go (bool (ltb d w))
-  where
-    go : (ltb d w ≡ true) ⊎ (ltb d w ≡ false) → cond (ltb d w) d w ≤ w
-    go (inl e) = rw e (omega (arith, ltb-true d w e))
-    go (inr e) = rw e (omega arith)
-
 -- what holds of the rows of the window and of those beyond
 split : {P : Type 0} (i w : ℕ) → (i < w → P) → (w ≤ i → P) → P
 split {P} i w a b = go (bool (ltb i w))
@@ -189,12 +182,12 @@ module _ (w : ℕ) (win : Window w) (g : ℕ) (rows : List Row) (full : w ≤ le
       same i = split i w (λ l. all_enter w win g w i l (omega arith) ∙ sym (all_enter w win g d i l h)) (λ l. none_beyond w g w i l ∙ sym (none_beyond w g d i l))
 
   -- the numbers beyond the window's size free no further row
-  pub freed-least : (d : ℕ) → freed_from w 0 g (cond (ltb d w) d w) rows ≡ freed_from w 0 g d rows
+  pub freed-least : (d : ℕ) → freed_from w 0 g (min d w) rows ≡ freed_from w 0 g d rows
   freed-least d = go (bool (ltb d w))
     where
-      go : (ltb d w ≡ true) ⊎ (ltb d w ≡ false) → freed_from w 0 g (cond (ltb d w) d w) rows ≡ freed_from w 0 g d rows
-      go (inl e) = rw e
-      go (inr e) = rw e (freed_all d (ltb-false d w e))
+      go : (ltb d w ≡ true) ⊎ (ltb d w ≡ false) → freed_from w 0 g (min d w) rows ≡ freed_from w 0 g d rows
+      go (inl e) = ap (λ (k : ℕ). freed_from w 0 g k rows) (omega (arith, ltb-true d w e))
+      go (inr e) = ap (λ (k : ℕ). freed_from w 0 g k rows) (omega (arith, ltb-false d w e)) ∙ freed_all d (ltb-false d w e)
 
   -- where numbers are skipped the rows are freed; the row of the number itself is replaced
   module _ (t d : ℕ) (E : Entered w g t d) where

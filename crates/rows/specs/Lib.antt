@@ -1,3 +1,4 @@
+pub mod Origin
 pub mod State
 pub mod Message
 pub mod Messages

@@ -1,6 +1,6 @@
 -- What one message does to a board: first its window, then the row of its number (document 01, "Transfer window" and "One row").
 -- Over the draft and over the window size w.
-use Rattle.std.specs.Prelude.{true, false, cond, List, [], ◌∷◌, ℕ, suc, ◌*◌, get_or, take, drop, set}
+use Rattle.std.specs.Prelude.{true, false, cond, List, [], ◌∷◌, ℕ, suc, ◌*◌, get_or, take, drop, set, None, Some}
 use Rattle.std.proofs.Math.Option.{Option, none, some}
 use Rattle.octets.specs.Octets.{put}
 use Rattle.wire.specs.Frame.{Item, items, scanned, from}
@@ -21,8 +21,7 @@ use Rattle.pieces.specs.Pieces.{bundle_max}
 use Rattle.row.specs.Row.{empty_row}
 use Rattle.reassembly.specs.Rules.{piece_step, cancel_step}
 use Rattle.rows.specs.declared.State.{State}
-use Rattle.rows.specs.declared.Origin.{Origin}
-use Rattle.rows.specs.declared.Origin.TheVariants.{Whole, Transfer}
+use Rattle.rows.specs.Origin.{Origin}
 
 -- A draft of the protocol: how a message is read, and the order of index in which pieces are joined.
 pub record Draft : Type 0 where
@@ -94,7 +93,7 @@ module _ (w : ℕ) where
           state = record { present = b.state.present; greatest = b.state.greatest; rows = set b.state.rows r o.row; settings = b.state.settings };
           pool = put_cell b.pool r o.cell;
         };
-        handed = handed_of (Transfer t) o.bundle;
+        handed = handed_of (Some t) o.bundle;
       }
 
   -- a transfer message with number t, by how t stands to the window
@@ -109,7 +108,7 @@ module _ (w : ℕ) where
   -- a bundle message hands out its content each time it comes
   unfoldable pub step : Order → Board → Message → Outcome
   step order b skipped = unchanged b
-  step order b (bundle content) = record { board = b; handed = handed_of Whole (some content) }
+  step order b (bundle content) = record { board = b; handed = handed_of None (some content) }
   step order b (segment t i d) = transfer (piece_step order false i d) b t
   step order b (last t i d) = transfer (piece_step order true i d) b t
   step order b (cancel t) = transfer cancel_step b t

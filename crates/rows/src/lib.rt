@@ -2,9 +2,9 @@
 // number frees, and where a message goes (document 01, "Transfer window" and "Sound state").
 #![tactic(auto)]
 
-ghost use Rattle.std.specs.Prelude.{◌≡◌, true, cond, length, ltb};
+ghost use Rattle.std.specs.Prelude.{◌≡◌, true, length};
 ghost use Rattle.wire.specs.Layout.{fitting, message};
-ghost use Rattle.window.specs.Window.{is_window, standing_of};
+ghost use Rattle.window.specs.Window.{standing_of};
 ghost use Rattle.rows.specs.State as Spec;
 ghost use Rattle.rows.specs.Message as Message;
 ghost use Rattle.rows.specs.Message.{freed_from};
@@ -12,7 +12,7 @@ ghost use Rattle.rows.specs.Visit as Visits;
 
 use pieces::Order;
 use row::{Phase, Row};
-use window::Standing;
+use window::{Standing, Window};
 use wire::{Kind, Version};
 
 // What is chosen at start and stays.
@@ -23,20 +23,14 @@ pub struct Settings {
 }
 
 // The greatest transfer number, where there is one yet, a row for each number of the window, and the settings. Rows beyond the window carry
-// no meaning and are free.
+// no meaning and are free. `present` and `greatest` stand apart, and are no Option: a state in which they do not fit is one that `is_sound`
+// refuses.
 #[derive(Clone, Copy)]
 pub struct State {
     pub present: bool,
     pub greatest: u32,
     pub rows: [Row; 16],
     pub settings: Settings,
-}
-
-// Where a bundle comes from: a bundle message, or a transfer with its number.
-#[derive(Clone, Copy)]
-pub enum Origin {
-    Whole,
-    Transfer(u32),
 }
 
 // What a message does: nothing, where it is passed over or outside the window; or hand out its content; or bring its row a piece, of an
@@ -49,8 +43,8 @@ pub enum Act {
     Cancel,
 }
 
-// What a message does, the row that it goes to, how many numbers enter the window for it, the window after it, and the origin of
-// its bundle.
+// What a message does, the row that it goes to, how many numbers enter the window for it, the window after it, and the origin of its
+// bundle: the number of its transfer, or none for a bundle message.
 #[derive(Clone, Copy)]
 pub struct Visit {
     pub act: Act,
@@ -58,15 +52,7 @@ pub struct Visit {
     pub entered: u32,
     pub present: bool,
     pub greatest: u32,
-    pub origin: Origin,
-}
-
-// The draft that a receiver is set to.
-pub fn version_of(state: State) -> Version
-    ensures { result ≡ state.settings.version }
-{
-    let settings = state.settings;
-    settings.version
+    pub origin: Option<u32>,
 }
 
 // The order of index in which a draft joins pieces.
@@ -79,98 +65,63 @@ pub fn order_of(version: Version) -> Order
     }
 }
 
-fn is_free(phase: Phase) -> bool
-    ensures { result ≡ Spec.is_free phase }
-{
-    match phase {
-        Phase::Free => true,
-        Phase::Open => false,
-        Phase::Done => false,
-        Phase::Cancelled => false,
-        Phase::Abandoned => false,
-    }
-}
-
 // A row is sound, and free where no number has it.
 fn sound_in(row: Row, present: bool) -> bool
     ensures { result ≡ Spec.sound_in present row }
 {
-    let phase = row.phase;
-    let free = is_free(phase);
-    row::sound_row(row) & (present | free)
+    row::sound_row(row) & (present | matches!(row.phase, Phase::Free))
 }
 
-pub fn is_sound(state: State) -> bool
-    ensures { result ≡ Spec.sound state }
+pub fn is_sound(state: &State) -> bool
+    ensures { result ≡ Spec.sound state.now }
 {
     let window = state.settings.window;
     let present = state.present;
     let mut sound = window::is_window(window) & (present | (state.greatest == 0));
-    let mut k = 0;
-    while k < 16 {
-        let row = state.rows[k];
-        sound = sound & sound_in(row, present & (k < window as usize));
-        k += 1;
+    for (k, row) in state.rows.iter().enumerate() {
+        sound &= sound_in(*row, present & (k < window as usize));
     }
     sound
 }
 
-fn least(a: u32, b: u32) -> u32
-    ensures { result ≡ cond (ltb a b) a b }
-{
-    if a < b {
-        return a;
-    }
-    b
-}
-
 // The rows of the numbers that entered, so many after the greatest, become free.
-pub fn freed(rows: [Row; 16], window: u32, greatest: u32, entered: u32) -> [Row; 16]
-    requires { is_window window ≡ true }
-    ensures { result ≡ freed_from window 0 greatest entered rows }
+pub fn freed(rows: [Row; 16], window: Window, entered: u32) -> [Row; 16]
+    ensures { result ≡ freed_from window.size 0 window.greatest entered rows }
 {
     let free = row::empty_row(Phase::Free);
-    let count = least(entered, window);
-    let first = greatest % window + 1;
+    let first = window.greatest % window.size + 1;
     let mut next = rows;
-    let mut j = 0;
-    while j < count {
-        let slot = window::row_of(window, first + j);
+    for j in 0..entered.min(window.size) {
+        let slot = window.row_of(first + j);
         next[slot] = free;
-        j += 1;
     }
     next
 }
 
-fn stay(present: bool, greatest: u32, act: Act) -> Visit
-    ensures { result ≡ Visits.stay present greatest act }
+fn stay(window: Window, act: Act) -> Visit
+    ensures { result ≡ Visits.stay window.present window.greatest act }
 {
     Visit {
         act,
         slot: 0,
         entered: 0,
-        present,
-        greatest,
-        origin: Origin::Whole,
+        present: window.present,
+        greatest: window.greatest,
+        origin: None,
     }
 }
 
 // Where a transfer message goes.
-fn transfer_visit(window: u32, present: bool, greatest: u32, act: Act, number: u32) -> Visit
-    requires { is_window window ≡ true }
-    ensures { result ≡ Visits.transfer_visit window (standing_of window present greatest number) present greatest act number }
+fn transfer_visit(window: Window, act: Act, number: u32) -> Visit
+    ensures { result ≡ Visits.transfer_visit window.size (standing_of window.size window.present window.greatest number) window.present window.greatest act number }
 {
-    let slot = window::row_of(window, number);
-    let origin = Origin::Transfer(number);
-    let s = window::standing_of(window, present, greatest, number);
-    match s {
+    let slot = window.row_of(number);
+    let origin = Some(number);
+    match window.standing_of(number) {
         Standing::Inside => Visit {
-            act,
             slot,
-            entered: 0,
-            present,
-            greatest,
             origin,
+            ..stay(window, act)
         },
         Standing::New(entered) => Visit {
             act,
@@ -180,38 +131,22 @@ fn transfer_visit(window: u32, present: bool, greatest: u32, act: Act, number: u
             greatest: number,
             origin,
         },
-        Standing::Outside => stay(present, greatest, Act::Pass),
+        Standing::Outside => stay(window, Act::Pass),
     }
 }
 
 // Where a message goes.
-pub fn visit_of(window: u32, present: bool, greatest: u32, kind: Kind, content: &[u8]) -> Visit
-    requires { (is_window window ≡ true) × (fitting kind (length content.now) ≡ true) }
-    ensures { result ≡ Visits.visit_of window present greatest (message kind content.now) }
+pub fn visit_of(window: Window, kind: Kind, content: &[u8]) -> Visit
+    requires { fitting kind (length content.now) ≡ true }
+    ensures { result ≡ Visits.visit_of window.size window.present window.greatest (message kind content.now) }
 {
     match kind {
-        Kind::Skipped => stay(present, greatest, Act::Pass),
-        Kind::Bundle => stay(present, greatest, Act::HandOut),
-        Kind::Segment => transfer_visit(
-            window,
-            present,
-            greatest,
-            Act::Piece(false),
-            octets::number_at(content, 0),
-        ),
-        Kind::End => transfer_visit(
-            window,
-            present,
-            greatest,
-            Act::Piece(true),
-            octets::number_at(content, 0),
-        ),
-        Kind::Cancel => transfer_visit(
-            window,
-            present,
-            greatest,
-            Act::Cancel,
-            octets::number_at(content, 0),
-        ),
+        Kind::Skipped => stay(window, Act::Pass),
+        Kind::Bundle => stay(window, Act::HandOut),
+        Kind::Segment => {
+            transfer_visit(window, Act::Piece(false), octets::number_at(content, 0))
+        }
+        Kind::End => transfer_visit(window, Act::Piece(true), octets::number_at(content, 0)),
+        Kind::Cancel => transfer_visit(window, Act::Cancel, octets::number_at(content, 0)),
     }
 }

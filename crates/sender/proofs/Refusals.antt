@@ -21,6 +21,7 @@ use Rattle.framing.proofs.Ways.{placing-ways}
 use Rattle.sender.specs.Answers.{Case, refusal, unless, first_of, is_refusal, reply_number, StartReply, start_number}
 use Rattle.sender.specs.Sound.{sized}
 use Rattle.sender.specs.Calls.{place_cases, place, cancel_cases, cancel, flush_cases, flush, start}
+use Rattle.sender.proofs.Ways.{Positive}
 
 abbrev Carried : Outcome → Type 0
 Carried o = is_refusal o.answer ≡ false
@@ -47,10 +48,6 @@ no_number placed_and_ready g = refl
 no_number ready g = refl
 no_number nothing g = refl
 no_number (refused n) g = absurd (false≢true (sym g))
-
-abbrev Positive : List Case → Type 0
-Positive [] = Unit {0}
-Positive (refusal n applies ∷ cs) = (0 < n) × Positive cs
 
 module _ (s : State) (d : List ℕ) (o : Outcome) (g : Carried o) where
   unless-first : (cs : List Case) → reply_number (unless cs s d o).answer ≡ first_of cs

@@ -1,17 +1,16 @@
 -- The answer of start, and which refusal a sending call gives (document 01, "Sending calls" and "Numbers of refusal").
-use Rattle.std.specs.Prelude.{Bool, true, false, cond, List, [], ◌∷◌, ℕ}
+use Rattle.std.specs.Prelude.{Bool, true, false, cond, List, [], ◌∷◌, ℕ, Result, Ok, Err}
 use Rattle.framing.specs.declared.State.{State}
+use Rattle.framing.specs.declared.Refusal.{Refusal}
 use Rattle.framing.specs.Answers.{Reply, placed, placed_and_ready, ready, nothing, refused, refusal_number, Outcome}
-use Rattle.sender.specs.declared.Started.{Started}
-use Rattle.sender.specs.declared.Started.TheVariants as started
 
 pub data StartReply : Type 0 where
   made : State → StartReply
   denied : ℕ → StartReply
 
-unfoldable pub start_reply : Started → StartReply
-start_reply (started.Made s) = made s
-start_reply (started.Refused r) = denied (refusal_number r)
+unfoldable pub start_reply : Result State Refusal → StartReply
+start_reply (Ok s) = made s
+start_reply (Err r) = denied (refusal_number r)
 
 -- A row of the table of refusals: the number, and whether its case applies.
 pub data Case : Type 0 where
@@ -26,6 +25,11 @@ unless (refusal n applies ∷ cs) s d o = cond applies (record { answer = refuse
 unfoldable pub first_of : List Case → ℕ
 first_of [] = 0
 first_of (refusal n applies ∷ cs) = cond applies n (first_of cs)
+
+-- the number of the refusal that a test of the cases gives, 0 where it gives none
+unfoldable pub given : {A : Type 0} → Result A Refusal → ℕ
+given (Ok a) = 0
+given (Err r) = refusal_number r
 
 unfoldable pub is_refusal : Reply → Bool
 is_refusal placed = false

@@ -1,173 +1,176 @@
 // The sending calls of document 01, "Sending calls".
 #![tactic(auto)]
 
-ghost use Rattle.std.specs.Prelude.{◌≡◌, ◌≤◌, ◌<◌};
+ghost use Rattle.std.specs.Prelude.{◌≡◌, ◌≤◌, ◌<◌, []};
 ghost use Rattle.wire.specs.declared.Version.TheVariants.{Draft02};
 ghost use Rattle.framing.specs.Answers.{outcome};
 ghost use Rattle.framing.specs.Placing.{bundle_max};
-ghost use Rattle.sender.specs.Answers.{start_reply};
+ghost use Rattle.sender.specs.Answers.{start_reply, given, first_of};
 ghost use Rattle.sender.specs.Sound as Sound;
 ghost use Rattle.sender.specs.Calls as Calls;
 
-pub use framing::{Answer, Refusal, Sent, State, refusal_number};
+pub use framing::{Answer, Refusal, Sent, State};
 use wire::Version;
 
 const BUNDLE_MAX: usize = 4096;
 
-#[derive(Clone, Copy)]
-pub enum Started {
-    Made(State),
-    Refused(Refusal),
-}
-
 fn sized(size: usize) -> bool
     ensures { result ≡ Sound.sized size }
 {
-    (128 <= size) & (size <= 2048)
+    (128..=2048).contains(&size)
 }
 
 fn ranges(s: State) -> bool
     ensures { result ≡ Sound.ranges s }
 {
-    sized(s.size) & (s.fill < s.size)
+    sized(s.size) && s.fill < s.size
 }
 
 fn cleared(s: State) -> bool
     ensures { result ≡ Sound.cleared s }
 {
-    (s.number == 0) & (s.length == 0) & (s.placed == 0) & (s.index == 0)
+    s.number == 0 && s.length == 0 && s.placed == 0 && s.index == 0
 }
 
 fn under_way(s: State) -> bool
     requires { 4 ≤ s.size }
     ensures { result ≡ Sound.under_way s }
 {
-    (s.fill == 0)
-        & (s.size - 4 < s.length)
-        & (s.length <= BUNDLE_MAX)
-        & (1 <= s.placed)
-        & (s.placed < s.length)
+    s.fill == 0
+        && s.size - 4 < s.length
+        && s.length <= BUNDLE_MAX
+        && 1 <= s.placed
+        && s.placed < s.length
 }
 
 fn pieces_left(s: State) -> usize
     requires { (13 ≤ s.size) × (s.size ≤ 2048) × (s.placed < s.length) × (s.length ≤ bundle_max) }
     ensures { (result ≡ Sound.pieces_left s) × (1 ≤ result) × (result ≤ 8192) }
 {
-    let each = s.size - 12;
-    (s.length - s.placed + (each - 1)) / each
+    (s.length - s.placed).div_ceil(s.size - 12)
 }
 
 fn indexed(s: State) -> bool
     requires { (13 ≤ s.size) × (s.size ≤ 2048) × (s.placed < s.length) × (s.length ≤ bundle_max) }
     ensures { result ≡ Sound.indexed s }
 {
-    let version = s.version;
     let left = pieces_left(s);
     let index = s.index as usize;
-    match version {
+    match s.version {
         Version::Draft00 => index == left - 1,
-        Version::Draft02 => (1 <= index) & (index + left <= 64),
+        Version::Draft02 => 1 <= index && index + left <= 64,
     }
 }
 
 pub fn sound(s: State) -> bool
     ensures { result ≡ Sound.sound s }
 {
-    if ranges(s) {
-        if s.begun {
-            if under_way(s) {
-                return indexed(s);
-            }
-            return false;
+    ranges(s)
+        && if s.begun {
+            under_way(s) && indexed(s)
+        } else {
+            cleared(s)
         }
-        return cleared(s);
-    }
-    false
-}
-
-fn refused(refusal: Refusal, state: State) -> Sent
-    ensures { (result.answer ≡ Answer.Refused refusal) × (result.state ≡ state) }
-{
-    Sent {
-        answer: Answer::Refused(refusal),
-        state,
-    }
 }
 
 // A sender of either draft.
-pub fn start_as(version: Version, size: usize, first: u32) -> Started
+pub fn start_as(version: Version, size: usize, first: u32) -> Result<State, Refusal>
     ensures { start_reply result ≡ Calls.start version size first }
 {
-    if sized(size) {
-        return Started::Made(State {
-            size,
-            fill: 0,
-            next: first,
-            begun: false,
-            number: 0,
-            length: 0,
-            placed: 0,
-            index: 0,
-            version,
-        });
+    if !sized(size) {
+        return Err(Refusal::FrameSize);
     }
-    Started::Refused(Refusal::FrameSize)
+    Ok(State {
+        size,
+        fill: 0,
+        next: first,
+        begun: false,
+        number: 0,
+        length: 0,
+        placed: 0,
+        index: 0,
+        version,
+    })
 }
 
-pub fn start(size: usize, first: u32) -> Started
+pub fn start(size: usize, first: u32) -> Result<State, Refusal>
     ensures { start_reply result ≡ Calls.start Draft02 size first }
 {
     start_as(Version::Draft02, size, first)
 }
 
+// The cases that all calls on a state share.
+fn admit(s: State, frame: &[u8]) -> Result<(), Refusal>
+    ensures { given result ≡ first_of (Calls.common s frame.now []) }
+{
+    if !sound(s) {
+        return Err(Refusal::Unsound);
+    }
+    if frame.len() != s.size {
+        return Err(Refusal::WrongBuffer);
+    }
+    Ok(())
+}
+
+fn admit_bundle(s: State, bundle: &[u8], frame: &[u8]) -> Result<(), Refusal>
+    ensures { given result ≡ first_of (Calls.place_cases s bundle.now frame.now) }
+{
+    admit(s, frame)?;
+    if bundle.is_empty() || bundle.len() > BUNDLE_MAX {
+        return Err(Refusal::BundleSize);
+    }
+    if s.begun && bundle.len() != s.length {
+        return Err(Refusal::OtherLength);
+    }
+    Ok(())
+}
+
+fn admit_cancel(s: State, frame: &[u8]) -> Result<(), Refusal>
+    ensures { given result ≡ first_of (Calls.cancel_cases s frame.now) }
+{
+    admit(s, frame)?;
+    if !s.begun {
+        return Err(Refusal::NoTransfer);
+    }
+    Ok(())
+}
+
 pub fn place(s: State, bundle: &[u8], frame: &mut [u8]) -> Sent
     ensures { outcome result frame.new ≡ Calls.place s bundle.now frame.old }
 {
-    let n = bundle.len();
-    if !sound(s) {
-        return refused(Refusal::Unsound, s);
+    match admit_bundle(s, bundle, frame) {
+        Ok(()) => framing::placing(s, bundle, frame),
+        Err(refusal) => Sent {
+            answer: Err(refusal),
+            state: s,
+        },
     }
-    if frame.len() != s.size {
-        return refused(Refusal::WrongBuffer, s);
-    }
-    if (n == 0) | (n > BUNDLE_MAX) {
-        return refused(Refusal::BundleSize, s);
-    }
-    if s.begun & (n != s.length) {
-        return refused(Refusal::OtherLength, s);
-    }
-    framing::placing(s, bundle, frame)
 }
 
 pub fn cancel(s: State, frame: &mut [u8]) -> Sent
     ensures { outcome result frame.new ≡ Calls.cancel s frame.old }
 {
-    if !sound(s) {
-        return refused(Refusal::Unsound, s);
+    match admit_cancel(s, frame) {
+        Ok(()) => framing::cancelling(s, frame),
+        Err(refusal) => Sent {
+            answer: Err(refusal),
+            state: s,
+        },
     }
-    if frame.len() != s.size {
-        return refused(Refusal::WrongBuffer, s);
-    }
-    if !s.begun {
-        return refused(Refusal::NoTransfer, s);
-    }
-    framing::cancelling(s, frame)
 }
 
 pub fn flush(s: State, frame: &mut [u8]) -> Sent
     ensures { outcome result frame.new ≡ Calls.flush s frame.old }
 {
-    if !sound(s) {
-        return refused(Refusal::Unsound, s);
-    }
-    if frame.len() != s.size {
-        return refused(Refusal::WrongBuffer, s);
-    }
-    if s.fill == 0 {
-        return Sent {
-            answer: Answer::Nothing,
+    match admit(s, frame) {
+        Ok(()) if s.fill == 0 => Sent {
+            answer: Ok(Answer::Nothing),
             state: s,
-        };
+        },
+        Ok(()) => framing::close(s, frame),
+        Err(refusal) => Sent {
+            answer: Err(refusal),
+            state: s,
+        },
     }
-    framing::close(s, frame)
 }

@@ -12,19 +12,28 @@ pub enum Standing {
     Outside,
 }
 
+// The window of a receiver: its size, and the greatest number, which has a meaning where there is one yet.
+#[derive(Clone, Copy)]
+pub struct Window {
+    pub size: u32,
+    pub present: bool,
+    pub greatest: u32,
+    ghost sized: { Spec.is_window size ≡ true },
+}
+
 // A plain start's window.
 pub const PLAIN: u32 = 8;
 
 pub fn is_window(window: u32) -> bool
     ensures { result ≡ Spec.is_window window }
 {
-    (window == 4) | (window == 8) | (window == 16)
+    matches!(window, 4 | 8 | 16)
 }
 
 fn distance(greatest: u32, number: u32) -> u32
     ensures { result ≡ Spec.distance greatest number }
 {
-    std::num::wrapping_sub_u32(number, greatest)
+    number.wrapping_sub(greatest)
 }
 
 // The window's table, by the distance.
@@ -44,26 +53,24 @@ fn standing_at(window: u32, d: u32) -> Standing
     Standing::Inside
 }
 
-pub fn standing_of(window: u32, present: bool, greatest: u32, number: u32) -> Standing
-    requires { Spec.is_window window ≡ true }
-    ensures { result ≡ Spec.standing_of window present greatest number }
-{
-    if present {
-        return standing_at(window, distance(greatest, number));
+impl Window {
+    pub fn standing_of(self, number: u32) -> Standing
+        ensures { result ≡ Spec.standing_of self.size self.present self.greatest number }
+    {
+        if self.present {
+            return standing_at(self.size, distance(self.greatest, number));
+        }
+        Standing::New(self.size)
     }
-    Standing::New(window)
-}
 
-// The row that a number owns. By cases, since a remainder by a variable would be a division.
-pub fn row_of(window: u32, number: u32) -> usize
-    requires { Spec.is_window window ≡ true }
-    ensures { result ≡ Spec.row_of window number }
-{
-    if window == 16 {
-        return (number % 16) as usize;
+    // The row that a number owns. By cases, since a remainder by a variable would be a division.
+    pub fn row_of(self, number: u32) -> usize
+        ensures { result ≡ Spec.row_of self.size number }
+    {
+        match self.size {
+            16 => (number % 16) as usize,
+            8 => (number % 8) as usize,
+            _ => (number % 4) as usize,
+        }
     }
-    if window == 8 {
-        return (number % 8) as usize;
-    }
-    (number % 4) as usize
 }

@@ -9,11 +9,12 @@ use lib.Dec.{eqb}
 use Rattle.octets.specs.Octets.{Octets}
 use Rattle.octets.proofs.Numbers.{octets_drop, octets_take, number-low}
 use Rattle.octets.proofs.Flags.{cond_elim}
+use Rattle.std.proofs.Common.{Err, Ok}
+use Rattle.wire.specs.declared.Rejection.TheVariants.{Malformed, Misplaced}
 use Rattle.wire.specs.declared.Version.{Version}
 use Rattle.wire.specs.declared.Kind.{Kind}
 use Rattle.wire.specs.declared.Kind.TheVariants.{Skipped, Bundle, Segment, End, Cancel}
 use Rattle.wire.specs.declared.Fault.{Fault}
-use Rattle.wire.specs.declared.Checked.TheVariants.{Accepted, Malformed, Misplaced}
 use Rattle.wire.specs.Message.{Message, skipped, bundle, segment, last, cancel, Read, bad, good, kind, content_length}
 use Rattle.wire.specs.Layout.{message, read}
 use Rattle.wire.specs.Frame.{Item, Scan, broken, row, items, prepend, follow, scan, scanned, from, starts, judged, checked}
@@ -44,16 +45,16 @@ between_scan reader (suc n) p (x ∷ xs) q at e =
     between-follow p (p + suc (length xs)) (reader (x ∷ xs)) (λ s. scan reader n (p + s) (drop s (x ∷ xs))) (omega arith)
     (λ s q at e. omega (arith, length-drop s (x ∷ xs), between_scan reader n (p + s) (drop s (x ∷ xs)) q at e)) q at e
 
-judged_broken : (end : Bool) (place : ℕ) (s : Scan) (q : Fault) (at : ℕ) → judged end place s ≡ Malformed q at → s ≡ broken q at
+judged_broken : (end : Bool) (place : ℕ) (s : Scan) (q : Fault) (at : ℕ) → judged end place s ≡ Err (Malformed q at) → s ≡ broken q at
 unfolding judged
 judged_broken end place (broken r p) q at e = cc
 judged_broken end place (row is) q at e = go (end || starts place is) e
   where
-    go : (b : Bool) → cond b Accepted Misplaced ≡ Malformed q at → row is ≡ broken q at
+    go : (b : Bool) → cond b (Ok (tt {0})) (Err Misplaced) ≡ Err (Malformed q at) → row is ≡ broken q at
     go true e = accepted-malformed e
     go false e = absurd (let z : ◌≡◌ {A = ℕ} 0 1 = cc in omega arith)
 
-pub bad_within : (reader : List ℕ → Read) (frame : List ℕ) (place : ℕ) (q : Fault) (at : ℕ) → checked reader frame place ≡ Malformed q at → at < length frame
+pub bad_within : (reader : List ℕ → Read) (frame : List ℕ) (place : ℕ) (q : Fault) (at : ℕ) → checked reader frame place ≡ Err (Malformed q at) → at < length frame
 unfolding checked scanned
 bad_within reader frame place q at e =
     omega (arith, between_scan reader (length frame) 0 frame q at (judged_broken (eqb place (length frame)) place (scanned reader frame) q at e))

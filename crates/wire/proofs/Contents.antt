@@ -8,11 +8,12 @@ use lib.ListN.{length, get_or, take, drop, length-take, length-drop}
 use lib.Seq.{drop-drop}
 use lib.Dec.{eqb, ltb}
 use borrow.Author.Tests.{ltb-false, leb-true, eqb-true}
+use Rattle.std.proofs.Common.{Result, Err, None, Ok, Some}
+use Rattle.wire.specs.declared.Span.{Span}
+use Rattle.wire.specs.declared.Fault.{Fault}
 use Rattle.wire.specs.declared.Kind.{Kind}
 use Rattle.wire.specs.declared.Kind.TheVariants.{Skipped, Bundle, Segment, End, Cancel}
-use Rattle.wire.specs.declared.Hints.TheVariants.{Left, Overrun}
 use Rattle.wire.specs.declared.Fault.TheVariants.{PastMessage, BadContent}
-use Rattle.wire.specs.declared.Reading.TheVariants.{Good, Bad}
 use Rattle.wire.specs.Message.{kind, content_length, span, answer}
 use Rattle.wire.specs.Layout.{Chain, overrun, behind, chain, hints, left, fitting, message, content, body}
 use Rattle.wire.proofs.Apart.{left-overrun}
@@ -44,7 +45,7 @@ unfolding hints
 tail-hints true xs = tail-chain (length xs) xs
 tail-hints false xs = from 0 (omega arith) refl
 
-tail-fits : (xs : List ℕ) (c : Chain) (n : ℕ) → Tail xs c → left c ≡ Left n → n ≤ length xs
+tail-fits : (xs : List ℕ) (c : Chain) (n : ℕ) → Tail xs c → left c ≡ Some n → n ≤ length xs
 unfolding left
 tail-fits xs overrun n t e = left-overrun (sym e)
 tail-fits xs (behind ys) n (from k l d) e =
@@ -53,16 +54,16 @@ tail-fits xs (behind ys) n (from k l d) e =
     omega arith
 
 -- what the hint walk leaves of a message's body is no longer than the body
-pub left-fits : (hinted : Bool) (size : ℕ) (xs : List ℕ) (n : ℕ) → left (hints hinted (take size xs)) ≡ Left n → n ≤ size
+pub left-fits : (hinted : Bool) (size : ℕ) (xs : List ℕ) (n : ℕ) → left (hints hinted (take size xs)) ≡ Some n → n ≤ size
 left-fits hinted size xs n e =
     let m = tail-fits (take size xs) (hints hinted (take size xs)) n (tail-hints hinted (take size xs)) e in
     let l : length (take size xs) ≤ size = simp length-take (omega arith) in
     omega arith
 
-pub placed : {k l : Kind} {s t e f : ℕ} → k ≡ l → s ≡ t → e ≡ f → Good record { kind = k; start = s; end = e } ≡ Good record { kind = l; start = t; end = f }
+pub placed : {k l : Kind} {s t e f : ℕ} → k ≡ l → s ≡ t → e ≡ f → ◌≡◌ {A = Result Span Fault} (Ok record { kind = k; start = s; end = e }) (Ok record { kind = l; start = t; end = f })
 placed p q r = cc
 
-pub skip : (at size : ℕ) (k : Kind) (c : Chain) → k ≡ Skipped → Good record { kind = k; start = at + 4 + size; end = at + 4 + size } ≡ answer at (body k c (4 + size))
+pub skip : (at size : ℕ) (k : Kind) (c : Chain) → k ≡ Skipped → Ok record { kind = k; start = at + 4 + size; end = at + 4 + size } ≡ answer at (body k c (4 + size))
 unfolding body answer span kind content_length
 skip at size k c e = rw e (placed refl (omega arith) (omega arith))
 
@@ -77,20 +78,20 @@ carried Segment c size n = refl
 carried End c size n = refl
 carried Cancel c size n = refl
 
-past-content : (at size : ℕ) (k : Kind) (c : Chain) → left c ≡ Overrun → Bad PastMessage ≡ answer at (content k c size)
+past-content : (at size : ℕ) (k : Kind) (c : Chain) → left c ≡ None → Err PastMessage ≡ answer at (content k c size)
 unfolding content left answer
 past-content at size k overrun e = refl
 past-content at size k (behind xs) e = left-overrun e
 
-pub past : (at size : ℕ) (k : Kind) (c : Chain) → carrying k → left c ≡ Overrun → Bad PastMessage ≡ answer at (body k c size)
+pub past : (at size : ℕ) (k : Kind) (c : Chain) → carrying k → left c ≡ None → Err PastMessage ≡ answer at (body k c size)
 past at size k c n e = rw (carried k c size n) (past-content at size k c e)
 
-unfit-content : (at size : ℕ) (k : Kind) (c : Chain) (n : ℕ) → left c ≡ Left n → fitting k n ≡ false → Bad BadContent ≡ answer at (content k c size)
+unfit-content : (at size : ℕ) (k : Kind) (c : Chain) (n : ℕ) → left c ≡ Some n → fitting k n ≡ false → Err BadContent ≡ answer at (content k c size)
 unfolding content left answer
 unfit-content at size k overrun n e f = left-overrun (sym e)
 unfit-content at size k (behind xs) n e f = let l : length xs ≡ n = cc in rw (l, f)
 
-pub unfit : (at size : ℕ) (k : Kind) (c : Chain) (n : ℕ) → carrying k → left c ≡ Left n → fitting k n ≡ false → Bad BadContent ≡ answer at (body k c size)
+pub unfit : (at size : ℕ) (k : Kind) (c : Chain) (n : ℕ) → carrying k → left c ≡ Some n → fitting k n ≡ false → Err BadContent ≡ answer at (body k c size)
 unfit at size k c n h e f = rw (carried k c size h) (unfit-content at size k c n e f)
 
 pub kind-message : (k : Kind) (xs : List ℕ) → kind (message k xs) ≡ k
@@ -110,8 +111,8 @@ content-length Segment xs n f = rw length-drop (omega (arith, leb-true 8 (length
 content-length End xs n f = rw length-drop (omega (arith, leb-true 8 (length xs) f))
 content-length Cancel xs n f = sym (eqb-true (length xs) 4 f)
 
-fit_content : (at size : ℕ) (k : Kind) (c : Chain) (n : ℕ) → carrying k → left c ≡ Left n → fitting k n ≡ true
-    → Good record { kind = k; start = at + 4 + size - n; end = at + 4 + size } ≡ answer at (content k c (4 + size))
+fit_content : (at size : ℕ) (k : Kind) (c : Chain) (n : ℕ) → carrying k → left c ≡ Some n → fitting k n ≡ true
+    → Ok record { kind = k; start = at + 4 + size - n; end = at + 4 + size } ≡ answer at (content k c (4 + size))
 unfolding content left answer span
 fit_content at size k overrun n h e f = left-overrun (sym e)
 fit_content at size k (behind xs) n h e f =
@@ -120,6 +121,6 @@ fit_content at size k (behind xs) n h e f =
     let m = content-length k xs h g in
     rw g (placed (sym (kind-message k xs)) (omega arith) (omega arith))
 
-pub fit : (at size : ℕ) (k : Kind) (c : Chain) (n : ℕ) → carrying k → left c ≡ Left n → fitting k n ≡ true
-    → Good record { kind = k; start = at + 4 + size - n; end = at + 4 + size } ≡ answer at (body k c (4 + size))
+pub fit : (at size : ℕ) (k : Kind) (c : Chain) (n : ℕ) → carrying k → left c ≡ Some n → fitting k n ≡ true
+    → Ok record { kind = k; start = at + 4 + size - n; end = at + 4 + size } ≡ answer at (body k c (4 + size))
 fit at size k c n h e f = rw (carried k c (4 + size) h) (fit_content at size k c n h e f)

@@ -5,9 +5,9 @@ use Prim.Native.Nat.{ℕ, zero, suc, ◌+◌, ◌<◌}
 use native.Mathlib.Omega.{arith}
 use lib.ListN.{length, get_or, drop}
 use lib.Seq.{drop-cons}
+use Rattle.std.proofs.Common.{Ok}
 use Rattle.wire.specs.declared.Version.{Version}
 use Rattle.wire.specs.declared.Kind.TheVariants.{Skipped}
-use Rattle.wire.specs.declared.Reading.TheVariants.{Good}
 use Rattle.wire.specs.Message.{good, skipped, kind, content_length, span, answer}
 use Rattle.wire.specs.Layout.{zeros, headed, read}
 use Rattle.wire.proofs.Contents.{placed}
@@ -26,7 +26,7 @@ module _ (v : Version) (frame : List ℕ) (at : ℕ) (here : at < length frame) 
   padding e = rw (drop-cons frame at 0) (read-zero v _ _ e)
 
   pub padded : (end : ℕ) → get_or frame at 0 ≡ 0 → end ≡ at + zeros (drop at frame)
-      → Good record { kind = Skipped; start = end; end = end } ≡ answer at (read v (drop at frame))
+      → Ok record { kind = Skipped; start = end; end = end } ≡ answer at (read v (drop at frame))
   unfolding answer span kind content_length
   padded end e z = rw (padding e) (placed refl (omega arith) (omega arith))
 

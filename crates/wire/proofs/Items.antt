@@ -4,15 +4,15 @@ use mathlib.Core.List.{List, [], ◌∷◌}
 use Prim.Native.Nat.{ℕ, ◌+◌, ◌-◌, ◌≤◌, ◌<◌}
 use native.Mathlib.Omega.{arith}
 use lib.ListN.{length, take, drop, drop_of_length-le}
+use Rattle.std.proofs.Common.{Err, Ok}
 use Rattle.wire.specs.declared.Version.{Version}
 use Rattle.wire.specs.declared.Fault.{Fault}
 use Rattle.wire.specs.declared.Span.{Span}
-use Rattle.wire.specs.declared.Reading.TheVariants.{Good, Bad}
 use Rattle.wire.specs.Message.{Read, bad, good, answer}
 use Rattle.wire.specs.Layout.{message, read}
 use Rattle.wire.specs.Frame.{Item, Scan, broken, row, prepend, follow, scan}
 use Rattle.wire.proofs.Apart.{good-bad, row-broken}
-use Rattle.wire.proofs.Frames.{scan_at, stepped}
+use Rattle.wire.proofs.Scanning.{scan_at, stepped}
 use Rattle.wire.proofs.Spans.{sized, located}
 
 -- the item of a span that was read at a position
@@ -30,7 +30,7 @@ next-prepend v frame at m is (broken r p) e f = row-broken (sym f)
 next-prepend v frame at m is (row js) e f = record { rest = js; first = cc; then = e }
 
 module _ (v : Version) (frame : List ℕ) (at : ℕ) (is : List Item) (scanned : scan_at (read v) frame at ≡ row is) where
-  pub next : at < length frame → (m : Span) → answer at (read v (drop at frame)) ≡ Good m → Next v frame at m is
+  pub next : at < length frame → (m : Span) → answer at (read v (drop at frame)) ≡ Ok m → Next v frame at m is
   unfolding follow
   next here m a =
       let l = located v frame at (omega arith) m a in
@@ -38,12 +38,12 @@ module _ (v : Version) (frame : List ℕ) (at : ℕ) (is : List Item) (scanned :
       let e : scan_at (read v) frame at ≡ prepend (item_of frame at m) (scan_at (read v) frame m.end) = stepped (read v) (sized v) frame at here ∙ rw (l.means, d) in
       next-prepend v frame at m is (scan_at (read v) frame m.end) refl (sym e ∙ scanned)
 
-  never_bad : {A : Type 0} (r : Read) (q : Fault) → scan_at (read v) frame at ≡ follow at r (λ (s : ℕ). scan_at (read v) frame (at + s)) → answer at r ≡ Bad q → A
+  never_bad : {A : Type 0} (r : Read) (q : Fault) → scan_at (read v) frame at ≡ follow at r (λ (s : ℕ). scan_at (read v) frame (at + s)) → answer at r ≡ Err q → A
   unfolding follow answer
   never_bad (bad t) q e a = row-broken (sym scanned ∙ e)
   never_bad (good x s) q e a = good-bad a
 
-  pub never : {A : Type 0} → at < length frame → (q : Fault) → answer at (read v (drop at frame)) ≡ Bad q → A
+  pub never : {A : Type 0} → at < length frame → (q : Fault) → answer at (read v (drop at frame)) ≡ Err q → A
   never here q a = never_bad (read v (drop at frame)) q (stepped (read v) (sized v) frame at here) a
 
   pub finished : length frame ≤ at → is ≡ []

@@ -9,12 +9,12 @@ use lib.ListN.{length, get_or, take, drop, length-take, length-drop}
 use lib.Seq.{drop-drop, take-nil}
 use lib.Dec.{ltb}
 use borrow.Author.Tests.{ltb-false}
+use Rattle.std.proofs.Common.{Ok}
 use Rattle.wire.specs.declared.Version.{Version}
 use Rattle.wire.specs.declared.Kind.{Kind}
 use Rattle.wire.specs.declared.Kind.TheVariants.{Skipped, Bundle, Segment, End, Cancel}
 use Rattle.wire.specs.declared.Fault.{Fault}
 use Rattle.wire.specs.declared.Span.{Span}
-use Rattle.wire.specs.declared.Reading.TheVariants.{Good}
 use Rattle.wire.specs.Message.{Message, skipped, Read, bad, good, kind, content_length, span, answer}
 use Rattle.wire.specs.Layout.{zeros, kind_of, hinted, length_field, Chain, overrun, behind, hints, fitting, message, content, body, bodied, headed, read}
 use Rattle.wire.specs.Frame.{Sized, none, some}
@@ -117,10 +117,10 @@ module _ (v : Version) (frame : List ℕ) (at : ℕ) (here : at ≤ length frame
         within = omega arith;
       }
 
-  located_read : (r : Read) (m : Span) → Holds (drop at frame) r → read v (drop at frame) ≡ r → answer at r ≡ Good m → Located v frame at m
+  located_read : (r : Read) (m : Span) → Holds (drop at frame) r → read v (drop at frame) ≡ r → answer at r ≡ Ok m → Located v frame at m
   unfolding answer
   located_read (bad q) m h e a = good-bad (sym a)
   located_read (good x s) m (holds h) e a = let b : span x (at + s) ≡ m = cc in rw b at (located_good x s h e)
 
-  pub located : (m : Span) → answer at (read v (drop at frame)) ≡ Good m → Located v frame at m
+  pub located : (m : Span) → answer at (read v (drop at frame)) ≡ Ok m → Located v frame at m
   located m = located_read (read v (drop at frame)) m (holds_read v (drop at frame)) refl

@@ -1,10 +1,9 @@
 -- A frame as a row of messages, and its good places (document 01, "Receiving call").
-use Rattle.std.specs.Prelude.{Bool, false, cond, ◌||◌, List, [], ◌∷◌, map, ℕ, zero, suc, ◌+◌, ◌≤◌, ◌<◌, length, drop, eqb}
+use Rattle.std.specs.Prelude.{Bool, false, cond, ◌||◌, List, [], ◌∷◌, map, ℕ, zero, suc, ◌+◌, ◌≤◌, ◌<◌, length, drop, eqb, Err, Ok, Result}
+use Rattle.wire.specs.declared.Span.{Span}
+use Rattle.wire.specs.declared.Rejection.{Rejection}
+use Rattle.wire.specs.declared.Rejection.TheVariants.{Malformed, Misplaced}
 use Rattle.wire.specs.declared.Fault.{Fault}
-use Rattle.wire.specs.declared.Reading.{Reading}
-use Rattle.wire.specs.declared.Reading.TheVariants.{Good, Bad}
-use Rattle.wire.specs.declared.Checked.{Checked}
-use Rattle.wire.specs.declared.Checked.TheVariants.{Accepted, Malformed, Misplaced}
 use Rattle.wire.specs.Message.{Message, Read, bad, good}
 
 -- the most octets of a frame
@@ -40,9 +39,9 @@ starts p [] = false
 starts p (i ∷ is) = eqb i.start p || starts p is
 
 -- A place is good if it is the frame's length, which `end` says, or a message's start.
-unfoldable pub judged : Bool → ℕ → Scan → Checked
-judged end place (broken r p) = Malformed r p
-judged end place (row is) = cond (end || starts place is) Accepted Misplaced
+unfoldable pub judged : Bool → ℕ → Scan → Result (Unit {0}) Rejection
+judged end place (broken r p) = Err (Malformed r p)
+judged end place (row is) = cond (end || starts place is) (Ok tt) (Err Misplaced)
 
 -- A message takes at least one octet, and no more than there are.
 pub data Sized (room : ℕ) : Read → Type 0 where
@@ -60,7 +59,7 @@ module _ (reader : List ℕ → Read) where
   unfoldable pub scanned : List ℕ → Scan
   scanned frame = scan (length frame) 0 frame
 
-  unfoldable pub checked : List ℕ → ℕ → Checked
+  unfoldable pub checked : List ℕ → ℕ → Result (Unit {0}) Rejection
   checked frame place = judged (eqb place (length frame)) place (scanned frame)
 
   unfoldable pub messages : List ℕ → List Message
@@ -72,6 +71,6 @@ from p [] = []
 from p (i ∷ is) = cond (eqb i.start p) (i ∷ is) (from p is)
 
 -- what one reading says of its frame
-abbrev pub reading_checked : Reading → ℕ → Checked
-reading_checked (Good s) at = Accepted
-reading_checked (Bad r) at = Malformed r at
+abbrev pub reading_checked : Result Span Fault → ℕ → Result (Unit {0}) Rejection
+reading_checked (Ok s) at = Ok tt
+reading_checked (Err fault) at = Err (Malformed fault at)

@@ -1,13 +1,11 @@
 -- Reading the message at the head of what remains of a frame (document 01, "Octets of a frame").
-use Rattle.std.specs.Prelude.{Bool, true, false, cond, List, [], ◌∷◌, ℕ, zero, suc, ◌+◌, ◌*◌, ◌%◌, length, get_or, take, drop, ltb, leb, eqb}
+use Rattle.std.specs.Prelude.{Bool, true, false, cond, List, [], ◌∷◌, ℕ, zero, suc, ◌+◌, ◌*◌, ◌%◌, length, get_or, take, drop, ltb, leb, eqb, None, Option, Some}
 use Rattle.octets.specs.Octets.{number}
 use Rattle.wire.specs.declared.Version.{Version}
 use Rattle.wire.specs.declared.Version.TheVariants.{Draft00, Draft02}
 use Rattle.wire.specs.declared.Kind.{Kind}
 use Rattle.wire.specs.declared.Kind.TheVariants.{Skipped, Bundle, Segment, End, Cancel}
 use Rattle.wire.specs.declared.Fault.TheVariants.{ShortHeader, PastFrame, PastMessage, BadContent}
-use Rattle.wire.specs.declared.Hints.{Hints}
-use Rattle.wire.specs.declared.Hints.TheVariants.{Left, Overrun}
 use Rattle.wire.specs.Message.{Message, skipped, bundle, segment, last, cancel, Read, bad, good}
 
 -- Indefinite padding: how many zero octets stand at the head, up to the first other octet or the end.
@@ -63,14 +61,9 @@ unfoldable pub hints : Bool → List ℕ → Chain
 hints hinted xs = cond hinted (chain (length xs) xs) (behind xs)
 
 -- how many octets that is
-unfoldable pub left : Chain → Hints
-left overrun = Overrun
-left (behind xs) = Left (length xs)
-
--- as the hint walk answers it
-unfoldable pub walked : Chain → ℕ
-walked overrun = 0
-walked (behind xs) = 1 + length xs
+unfoldable pub left : Chain → Option ℕ
+left overrun = None
+left (behind xs) = Some (length xs)
 
 -- Whether a content has a length that its kind may have.
 unfoldable pub fitting : Kind → ℕ → Bool

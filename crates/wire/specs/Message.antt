@@ -1,12 +1,10 @@
 -- A message by its meaning, and where the code finds it in a frame.
-use Rattle.std.specs.Prelude.{List, ℕ, ◌+◌, ◌-◌, length}
+use Rattle.std.specs.Prelude.{List, ℕ, ◌+◌, ◌-◌, length, Err, Ok, Result}
 use Rattle.wire.specs.declared.Kind.{Kind}
 use Rattle.wire.specs.declared.Kind.TheVariants.{Skipped, Bundle, Segment, End, Cancel}
 use Rattle.wire.specs.declared.Fault.{Fault}
 use Rattle.wire.specs.declared.Fault.TheVariants.{ShortHeader, PastFrame, PastMessage, BadContent}
 use Rattle.wire.specs.declared.Span.{Span}
-use Rattle.wire.specs.declared.Reading.{Reading}
-use Rattle.wire.specs.declared.Reading.TheVariants.{Good, Bad}
 
 -- Padding and unknown types are passed over; a segment, and the last segment, have a transfer number, an index and data.
 pub data Message : Type 0 where
@@ -47,6 +45,6 @@ unfoldable pub span : Message → ℕ → Span
 span m end = record { kind = kind m; start = end - content_length m; end = end }
 
 -- What is read at a position of the frame, as the code answers it.
-unfoldable pub answer : ℕ → Read → Reading
-answer at (bad r) = Bad r
-answer at (good m size) = Good (span m (at + size))
+unfoldable pub answer : ℕ → Read → Result Span Fault
+answer at (bad r) = Err r
+answer at (good m size) = Ok (span m (at + size))

@@ -2,9 +2,8 @@
 #![tactic(auto)]
 
 ghost use Rattle.std.specs.Prelude.{◌≡◌, ◌+◌, ◌≤◌, ◌<◌, length, drop};
-ghost use Rattle.wire.specs.declared.Version.TheVariants.{Draft00, Draft02};
 ghost use Rattle.wire.specs.Message.{answer, fault_number};
-ghost use Rattle.wire.specs.Layout.{zeros, kind_of, length_field, chain, hints, left, walked, fitting, bodied, read};
+ghost use Rattle.wire.specs.Layout.{zeros, kind_of, length_field, chain, hints, left, fitting, bodied, read};
 ghost use Rattle.wire.specs.Layout as Layout;
 ghost use Rattle.wire.specs.Frame.{checked, reading_checked};
 
@@ -44,85 +43,56 @@ pub struct Span {
     pub end: usize,
 }
 
+// Frames one behind another: their sizes and their joined octets.
 #[derive(Clone, Copy)]
-pub enum Reading {
-    Good(Span),
-    Bad(Fault),
+pub struct Frames<'a> {
+    pub sizes: &'a [u16],
+    pub octets: &'a [u8],
 }
 
-// How many octets the hint chain leaves of a message, if it stays within it.
+// What speaks against a frame. Malformed: refusals 4 to 8, with the first bad message's start. Misplaced: refusal 9.
 #[derive(Clone, Copy)]
-enum Hints {
-    Left(usize),
-    Overrun,
-}
-
-// Malformed: refusals 4 to 8, with the first bad message's start. Misplaced: refusal 9.
-#[derive(Clone, Copy)]
-pub enum Checked {
-    Accepted,
+pub enum Rejection {
     Malformed(Fault, usize),
     Misplaced,
 }
 
-pub fn fault_number(fault: Fault) -> u32
-    ensures { result ≡ fault_number fault }
-{
-    match fault {
-        Fault::ShortHeader => 4,
-        Fault::PastFrame => 6,
-        Fault::PastMessage => 7,
-        Fault::BadContent => 8,
-    }
-}
+impl From<Fault> for u32 {
+    ghost from_gives = { λ fault n. n ≡ fault_number fault };
 
-// The end of the run of zero octets at a position.
-fn zeros_end(frame: &[u8], at: usize) -> usize
-    requires { at ≤ length frame.now }
-    ensures { result ≡ at + zeros (drop at frame.now) }
-{
-    let mut end = at;
-    while end < frame.len() {
-        if frame[end] != 0 {
-            return end;
+    fn from(fault: Fault) -> u32 {
+        match fault {
+            Fault::ShortHeader => 4,
+            Fault::PastFrame => 6,
+            Fault::PastMessage => 7,
+            Fault::BadContent => 8,
         }
-        end += 1;
     }
-    end
 }
 
-// Document 000, section 7; the start, of type 3, stands for an end.
-fn kind_00(code: u8) -> Kind
-    ensures { result ≡ kind_of Draft00 code }
+// How many zero octets stand at the head.
+fn zeros(s: &[u8]) -> usize
+    ensures { result ≡ zeros s.now }
 {
-    match code {
-        2 => Kind::Bundle,
-        3 => Kind::End,
-        4 => Kind::Segment,
-        5 => Kind::Cancel,
-        _ => Kind::Skipped,
+    for (n, octet) in s.iter().enumerate() {
+        if *octet != 0 {
+            return n;
+        }
     }
+    s.len()
 }
 
-fn kind_02(code: u8) -> Kind
-    ensures { result ≡ kind_of Draft02 code }
-{
-    match code {
-        2 => Kind::Bundle,
-        3 => Kind::Segment,
-        4 => Kind::End,
-        5 => Kind::Cancel,
-        _ => Kind::Skipped,
-    }
-}
-
-// Types 0, 1 and 6 to 255 are passed over. (Of constants alone the compiler makes a table for each draft.)
+// Types 0, 1 and 6 to 255 are passed over. Document 000, section 7: the start, of type 3, stands for an end.
+#[tactic(auto, unfolding(crate::specs::Layout::kind_of))]
 fn kind_of(version: Version, code: u8) -> Kind
     ensures { result ≡ kind_of version code }
 {
-    match version {
-        Version::Draft00 => kind_00(code),
-        Version::Draft02 => kind_02(code),
+    match (version, code) {
+        (_, 2) => Kind::Bundle,
+        (Version::Draft00, 3) | (Version::Draft02, 4) => Kind::End,
+        (Version::Draft00, 4) | (Version::Draft02, 3) => Kind::Segment,
+        (_, 5) => Kind::Cancel,
+        _ => Kind::Skipped,
     }
 }
 
@@ -141,60 +111,54 @@ fn length_field(version: Version, frame: &[u8], at: usize) -> usize
     requires { at + 4 ≤ length frame.now }
     ensures { result ≡ length_field version (drop at frame.now) }
 {
-    let n = octets::octet_size(frame[at + 1]) * 65536
-        + octets::octet_size(frame[at + 2]) * 256
-        + octets::octet_size(frame[at + 3]);
+    let n = u32::from_be_bytes([0, frame[at + 1], frame[at + 2], frame[at + 3]]) as usize;
     match version {
         Version::Draft00 => n,
         Version::Draft02 => n % 1048576,
     }
 }
 
-// Walks the hint chain at the start of s: one more than the octets that it leaves, or 0 where it runs past the end. (A number comes back
-// in a register; an enum is copied at every hint.)
-fn walk_hints(s: &[u8]) -> usize
-    ensures { result ≡ walked (chain (length s.now) s.now) }
+// How many octets the hint chain at the start of s leaves of it, if the chain stays within it. The walk calls itself on what one hint leaves:
+// document 01 names that form.
+fn walk_hints(s: &[u8]) -> Option<usize>
+    ensures { result ≡ left (chain (length s.now) s.now) }
 {
     if s.len() < 2 {
-        return 0;
+        return None;
     }
-    let value = octets::octet_size(s[1]);
+    let value = s[1] as usize;
     if s.len() - 2 < value {
-        return 0;
+        return None;
     }
     if s[0] % 2 == 0 {
-        return s.len() - 2 - value + 1;
+        return Some(s.len() - 2 - value);
     }
     let from = 2 + value;
     walk_hints(&s[from..])
 }
 
-fn after_hints(s: &[u8], hinted: bool) -> Hints
+// How many octets the hints leave of a message.
+#[tactic(auto, unfolding(crate::specs::Layout::hints, crate::specs::Layout::left))]
+fn after_hints(s: &[u8], hinted: bool) -> Option<usize>
     ensures { result ≡ left (hints hinted s.now) }
 {
-    if hinted {
-        let n = walk_hints(s);
-        if n == 0 {
-            return Hints::Overrun;
-        }
-        return Hints::Left(n - 1);
-    }
-    Hints::Left(s.len())
+    if hinted { walk_hints(s) } else { Some(s.len()) }
 }
 
 // Whether a content of a length fits its kind.
+#[tactic(auto, unfolding(crate::specs::Layout::fitting))]
 fn fits(kind: Kind, left: usize) -> bool
     ensures { result ≡ fitting kind left }
 {
     match kind {
         Kind::Segment | Kind::End => 8 <= left,
         Kind::Cancel => left == 4,
-        _ => true,
+        Kind::Skipped | Kind::Bundle => true,
     }
 }
 
 // The message at a position whose header says that size octets follow it, and they do.
-fn read_body(version: Version, frame: &[u8], at: usize, size: usize) -> Reading
+fn read_body(version: Version, frame: &[u8], at: usize, size: usize) -> Result<Span, Fault>
     requires { at + 4 + size ≤ length frame.now }
     ensures { result ≡ answer at (bodied version (drop at frame.now) size) }
 {
@@ -202,75 +166,76 @@ fn read_body(version: Version, frame: &[u8], at: usize, size: usize) -> Reading
     let end = start + size;
     let kind = kind_of(version, frame[at]);
     if let Kind::Skipped = kind {
-        return Reading::Good(Span {
+        return Ok(Span {
             kind,
             start: end,
             end,
         });
     }
     let h = after_hints(&frame[start..end], is_hinted(version, frame[at + 1]));
-    let Hints::Left(left) = h else {
-        return Reading::Bad(Fault::PastMessage);
+    let Some(left) = h else {
+        return Err(Fault::PastMessage);
     };
     if fits(kind, left) {
-        return Reading::Good(Span {
+        return Ok(Span {
             kind,
             start: end - left,
             end,
         });
     }
-    Reading::Bad(Fault::BadContent)
+    Err(Fault::BadContent)
 }
 
 // The message that starts at a position of the frame.
-pub fn read_message(version: Version, frame: &[u8], at: usize) -> Reading
+pub fn read_message(version: Version, frame: &[u8], at: usize) -> Result<Span, Fault>
     requires { at < length frame.now }
     ensures { result ≡ answer at (read version (drop at frame.now)) }
 {
     if frame[at] == 0 {
-        let end = zeros_end(frame, at);
-        return Reading::Good(Span {
+        let end = at + zeros(&frame[at..]);
+        return Ok(Span {
             kind: Kind::Skipped,
             start: end,
             end,
         });
     }
     if frame.len() - at < 4 {
-        return Reading::Bad(Fault::ShortHeader);
+        return Err(Fault::ShortHeader);
     }
     let size = length_field(version, frame, at);
     if frame.len() - at - 4 < size {
-        return Reading::Bad(Fault::PastFrame);
+        return Err(Fault::PastFrame);
     }
     read_body(version, frame, at, size)
 }
 
 // What one reading says of its frame.
-fn reading_checked(r: Reading, at: usize) -> Checked
+fn reading_checked(r: Result<Span, Fault>, at: usize) -> Result<(), Rejection>
     ensures { result ≡ reading_checked r at }
 {
     match r {
-        Reading::Good(_) => Checked::Accepted,
-        Reading::Bad(refusal) => Checked::Malformed(refusal, at),
+        Ok(_) => Ok(()),
+        Err(fault) => Err(Rejection::Malformed(fault, at)),
     }
 }
 
 // Reads every message of a frame of any length, and sees whether one starts at the place.
-pub fn check_frame(version: Version, frame: &[u8], place: usize) -> Checked
+pub fn check_frame(version: Version, frame: &[u8], place: usize) -> Result<(), Rejection>
     ensures { result ≡ checked (read version) frame.now place }
 {
     let mut at = 0;
     let mut seen = place == frame.len();
+    // A message says where the next one starts, so this is no loop over a range.
     while at < frame.len() {
-        seen = seen | (at == place);
+        seen |= at == place;
         let r = read_message(version, frame, at);
-        let Reading::Good(m) = r else {
+        let Ok(m) = r else {
             return reading_checked(r, at);
         };
         at = m.end;
     }
     if seen {
-        return Checked::Accepted;
+        return Ok(());
     }
-    Checked::Misplaced
+    Err(Rejection::Misplaced)
 }

@@ -3,9 +3,9 @@
 
 ghost use Rattle.std.specs.Prelude.{◌≡◌, ◌+◌, ◌-◌, ◌≤◌, ◌<◌, length};
 ghost use Rattle.wire.specs.declared.Version.{Version};
-ghost use Rattle.octets.specs.Octets.{put, copy_max};
+ghost use Rattle.octets.specs.Octets.{put};
 ghost use Rattle.wire.specs.Message.{bundle, cancel};
-ghost use Rattle.writing.specs.Written.{segment_type, end_type, type_of, piece_kind, header, written, piece, padding};
+ghost use Rattle.writing.specs.Written.{type_of, piece_kind, header, written, piece, padding};
 
 use wire::Version;
 
@@ -15,46 +15,27 @@ const BUNDLE: u8 = 2;
 
 const CANCEL: u8 = 5;
 
-fn segment_type(version: Version) -> u8
-    ensures { result ≡ segment_type version }
-{
-    match version {
-        Version::Draft00 => 4,
-        Version::Draft02 => 3,
-    }
-}
-
-fn end_type(version: Version) -> u8
-    ensures { result ≡ end_type version }
-{
-    match version {
-        Version::Draft00 => 3,
-        Version::Draft02 => 4,
-    }
-}
-
+// The two drafts exchange the types of a segment, and of an end or a start.
 fn piece_type(version: Version, ending: bool) -> u8
     ensures { result ≡ type_of version (piece_kind ending) }
 {
-    if ending {
-        return end_type(version);
+    match (version, ending) {
+        (Version::Draft00, true) | (Version::Draft02, false) => 3,
+        (Version::Draft00, false) | (Version::Draft02, true) => 4,
     }
-    segment_type(version)
 }
 
 fn put_header(frame: &mut [u8], at: usize, a: u8, n: usize)
     requires { (at + 4 ≤ length frame.old) × (n < 1048576) }
     ensures { frame.new ≡ put frame.old at (header a n) }
 {
-    let b = (n / 65536) as u8;
-    let c = (n / 256 % 256) as u8;
-    let d = (n % 256) as u8;
-    octets::put_four(frame, at, [a, b, c, d]);
+    let [_, b, c, d] = (n as u32).to_be_bytes();
+    octets::put_array(frame, at, [a, b, c, d]);
 }
 
 // Alike in both drafts.
 pub fn put_bundle(frame: &mut [u8], at: usize, content: &[u8])
-    requires { (at + 4 + length content.now ≤ length frame.old) × (length content.now ≤ copy_max) }
+    requires { (at + 4 + length content.now ≤ length frame.old) × (length content.now < 1048576) }
     ensures { (v : Version) → frame.new ≡ put frame.old at (written v (bundle content.now)) }
 {
     put_header(frame, at, BUNDLE, content.len());
@@ -71,7 +52,7 @@ pub fn put_piece(
     index: u32,
     part: &[u8],
 )
-    requires { (at + 12 + length part.now ≤ length frame.old) × (length part.now ≤ copy_max) }
+    requires { (at + 12 + length part.now ≤ length frame.old) × (8 + length part.now < 1048576) }
     ensures { frame.new ≡ put frame.old at (written version (piece ending number index part.now)) }
 {
     put_header(frame, at, piece_type(version, ending), 8 + part.len());

@@ -3,7 +3,7 @@ use mathlib.Core.Option.{Option, none}
 use mathlib.Core.Path.{◌≡◌, sym, ap, ◌∙◌}
 use Prim.Native.Nat.{ℕ, ◌≤◌}
 use native.Mathlib.Omega.{arith}
-use lib.ListN.{length}
+use lib.ListN.{length, length-take}
 use Rattle.rows.specs.State.{window_of}
 use Rattle.rows.specs.Message.{draft_of, Board}
 use Rattle.messages.specs.Run.{going, begun}
@@ -11,7 +11,8 @@ use Rattle.frames.specs.Frames.{set_out, through}
 use Rattle.burst.specs.declared.Refusal.{Refusal}
 use Rattle.burst.specs.Burst.{Lists, lists, taken, refusal, limits}
 use Rattle.burst.proofs.Starts.{sum-split, frames-parts, parts_fit, parts-few}
-use Rattle.burst.proofs.Refusals.{denied, admitted, refused, treated, Admits, admits}
+use Rattle.octets.proofs.Admitting.{denied, admitted}
+use Rattle.burst.proofs.Refusals.{refused, treated, Admits, admits}
 use Rattle.octets.specs.Octets.{sum_of}
 use Rattle.rows.specs.declared.State.{State}
 use mathlib.Core.List.{List}
@@ -31,7 +32,7 @@ module _ (s : State) (pool : List ℕ) where
 
 module _ (c : In_default) where
   none-applies : (let a = c.args in asked a.state a.pool.now a.sizes.now a.joined.now a.frame a.place a.output.now) ≡ none
-  none-applies = let a = c.args in admitted (asked a.state a.pool.now a.sizes.now a.joined.now a.frame a.place a.output.now) (sym c.admit-a.ensures ∙ c.in_default.is)
+  none-applies = let a = c.args in admitted (asked a.state a.pool.now a.sizes.now a.joined.now a.frame a.place a.output.now) (sym c.admit.ensures ∙ c.in_default.is)
 
   admitting : let a = c.args in Taken a.state a.pool.now a.sizes.now a.joined.now a.frame a.place (lists a.output.now a.lengths.now a.numbers.now a.places.now a.reasons.now)
   admitting =
@@ -42,14 +43,17 @@ module _ (c : In_default) where
 within : (c : After-sum_of-start) → length c.args.joined.now ≡ sum_of c.args.sizes.now → c.sum_of-start.result ≤ length c.args.joined.now
 within c even = omega (arith, c.sum_of-start.ensures, even, sum-split c.args.frame c.args.sizes.now)
 
-pub returns-in-Denied : goal.returns-in-Denied
-returns-in-Denied c =
+pub returns-in-Err : goal.returns-in-Err
+returns-in-Err c =
     let a = c.args in
     sym (refused (draft_of a.state) (window_of a.state) (board a.state a.pool.now) a.sizes.now a.joined.now a.frame a.place (lists a.output.now a.lengths.now a.numbers.now a.places.now a.reasons.now) _
-    (denied (asked a.state a.pool.now a.sizes.now a.joined.now a.frame a.place a.output.now) _ (sym c.admit-a.ensures ∙ c.in-Denied.is)))
+    (denied (asked a.state a.pool.now a.sizes.now a.joined.now a.frame a.place a.output.now) _ (sym c.admit.ensures ∙ c.in-Err.is)))
+
+pub slice_bounds-sum_of-end : goal.slice_bounds-sum_of-end
+slice_bounds-sum_of-end c = let A = admitting (goal.at.slice_bounds-sum_of-end c).In_default in simp length-take (omega (arith, A.below))
 
 pub sum_of-start-requires : goal.sum_of-start-requires
-sum_of-start-requires c = let A = admitting (goal.at.sum_of-start-requires c).In_default in (A.below, omega (arith, A.below, A.few))
+sum_of-start-requires c = let A = admitting (goal.at.sum_of-start-requires c).In_default in simp length-take (omega (arith, A.below, A.few))
 
 pub offset_bounds-sizes-frame : goal.offset_bounds-sizes-frame
 offset_bounds-sizes-frame c = let A = admitting (goal.at.offset_bounds-sizes-frame c).In_default in record { fits = omega (arith, A.below, A.few) }

@@ -6,8 +6,8 @@ use Rattle.framing.proofs.advanced.Goals as goal
 
 pub returns-then-fill-s : goal.returns-then-fill-s
 unfolding advanced reply
-returns-then-fill-s c = λ d. rw (eq-eqb _ _ c.if-fill-s.true, c.with_fill.ensures)
+returns-then-fill-s c = λ d. rw (eq-eqb _ _ c.if-fill-s.true)
 
 pub returns : goal.returns
 unfolding advanced reply
-returns c = λ d. rw (ne_eqb _ _ c.if-fill-s.false, c.with_fill-2.ensures)
+returns c = λ d. rw (ne_eqb _ _ c.if-fill-s.false)

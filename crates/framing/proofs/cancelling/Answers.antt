@@ -1,14 +1,11 @@
 -- `framing::cancelling` meets its contract.
-use Rattle.std.proofs.Common.{sym, arith}
+use Rattle.std.proofs.Common.{sym}
 use Rattle.wire.specs.Message as Message
 use Rattle.wire.specs.Message.{content_length}
 use Rattle.writing.proofs.Written.{length-written}
 use Rattle.framing.specs.Placing.{ended}
 use Rattle.framing.proofs.Steps.{is-added}
 use Rattle.framing.proofs.cancelling.Goals as goal
-
-pub advanced-requires : goal.advanced-requires
-advanced-requires c = rw c.ended.ensures (omega arith)
 
 pub returns : goal.returns
 unfolding content_length

@@ -5,4 +5,4 @@ use Rattle.framing.proofs.close.Goals as goal
 
 pub returns : goal.returns
 unfolding closed reply
-returns c = rw (c.with_fill.ensures, c.put_padding.ensures, c.requires.2)
+returns c = rw (c.put_padding.ensures, c.requires.2)

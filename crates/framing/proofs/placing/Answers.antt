@@ -1,33 +1,33 @@
 -- `framing::placing` meets its contract.
-use Rattle.std.proofs.Common.{◌-◌, sym, refl, ◌∙◌, arith, le-leb}
+use Rattle.std.proofs.Common.{◌+◌, ◌≤◌, refl, length, arith, le-leb}
 use borrow.Author.Tests.{lt-leb}
 use Rattle.wire.specs.Message.{bundle, content_length}
 use Rattle.writing.proofs.Written.{length-written}
 use Rattle.framing.specs.Placing.{placing}
-use Rattle.framing.proofs.Steps.{loose, is-added}
+use Rattle.framing.proofs.Steps.{is-added}
 use Rattle.framing.proofs.placing.Goals as goal
+use Rattle.framing.proofs.placing.Goals.{then-n-s, else-n-s}
 
 pub returns-then-n-room : goal.returns-then-n-room
 unfolding placing content_length
 returns-then-n-room c =
     let a = c.args in
-    rw (le-leb _ _ c.if-n-s.true, le-leb _ _ c.if-n-room.true)
+    let fits : length a.bundle.now + 4 ≤ a.s.size = omega arith in
+    rw (le-leb _ _ fits, le-leb _ _ c.if-n-room.true)
     (is-added _ a.s _ _ (bundle a.bundle.now) a.frame.now _ refl c.advanced.ensures (omega (arith, length-written a.s.version (bundle a.bundle.now))) (c.put_bundle.ensures a.s.version))
-
-pub returns-then-n-s : goal.returns-then-n-s
-unfolding placing
-returns-then-n-s c = rw (le-leb _ _ c.if-n-s.true, lt-leb _ _ c.if-n-room.false) c.close.ensures
 
 pub returns-then-tight : goal.returns-then-tight
 unfolding placing
-returns-then-tight c = rw (lt-leb _ _ c.if-n-s.false, ← c.tight.ensures, c.if-tight.true) c.close-then-tight.ensures
+returns-then-tight c =
+    elim c.if-n-s.branch [
+      | then-n-s w ↦ rw (le-leb _ _ w.if-n-s.true, lt-leb _ _ c.if-n-room.false) c.close.ensures
+      | else-n-s w ↦ rw (lt-leb _ _ w.if-n-s.false, ← w.tight.ensures, ← w.value-is, c.if-tight.true) c.close.ensures
+    ]
 
-pub place_piece-requires : goal.place_piece-requires
-place_piece-requires c =
-    let s = c.args.s in
-    let r = loose (s.size - s.fill) (sym c.tight.ensures ∙ c.if-tight.false) in
-    omega arith
-
-pub returns : goal.returns
+pub returns-else-tight : goal.returns-else-tight
 unfolding placing
-returns c = rw (lt-leb _ _ c.if-n-s.false, ← c.tight.ensures, c.if-tight.false) c.place_piece.ensures
+returns-else-tight c =
+    elim c.if-n-s.branch [
+      | then-n-s w ↦ let small = le-leb _ _ w.if-n-s.true in cc
+      | else-n-s w ↦ rw (lt-leb _ _ w.if-n-s.false, ← w.tight.ensures, ← w.value-is, c.if-tight.false) c.place_piece.ensures
+    ]

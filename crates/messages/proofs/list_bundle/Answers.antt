@@ -5,8 +5,8 @@ use Rattle.messages.specs.Run.{size}
 use Rattle.messages.proofs.list_bundle.Goals as goal
 
 pub overflow_cast-n : goal.overflow_cast-n
-overflow_cast-n c = let e = ap size c.in-Bundle.is in record { fits = omega (arith, e, c.requires) }
+overflow_cast-n c = let e = ap size c.in-Some.is in record { fits = omega (arith, e, c.requires) }
 
-pub returns-in-Bundle : goal.returns-in-Bundle
-returns-in-Bundle c =
-    let e = c.in-Bundle.is in (rw e c.put_length.ensures, rw (e, ← c.origin_number.ensures) c.put_origin.ensures)
+pub returns-in-Some : goal.returns-in-Some
+returns-in-Some c =
+    let e = c.in-Some.is in (rw e c.put_entry.ensures, rw (e, ← c.origin_number.ensures) c.put_entry-in-Some.ensures)

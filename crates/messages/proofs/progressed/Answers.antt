@@ -4,13 +4,13 @@ use native.Mathlib.Omega.{arith}
 use Rattle.messages.specs.Run.{progressed, size}
 use Rattle.messages.proofs.progressed.Goals as goal
 
-pub overflow_add-result-in-Bundle : goal.overflow_add-result-in-Bundle
-overflow_add-result-in-Bundle c = let e = ap size c.in-Bundle.is in omega (arith, e)
+pub overflow_add-result-in-Some : goal.overflow_add-result-in-Some
+overflow_add-result-in-Some c = let e = ap size c.in-Some.is in omega (arith, e)
 
-pub returns-in-Nothing : goal.returns-in-Nothing
+pub returns-in-None : goal.returns-in-None
 unfolding progressed
-returns-in-Nothing c = rw c.in-Nothing.is
+returns-in-None c = rw c.in-None.is
 
-pub returns-in-Bundle : goal.returns-in-Bundle
+pub returns-in-Some : goal.returns-in-Some
 unfolding progressed
-returns-in-Bundle c = rw c.in-Bundle.is
+returns-in-Some c = rw c.in-Some.is

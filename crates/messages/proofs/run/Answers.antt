@@ -4,6 +4,7 @@ use mathlib.Core.Path.{◌≡◌, sym, ap, ◌∙◌}
 use Prim.Native.Nat.{◌+◌, ◌≤◌, ℕ, ◌-◌, ◌^◌, ◌<◌}
 use native.Mathlib.Omega.{arith}
 use lib.ListN.{get_or, set, length}
+use Rattle.std.proofs.Common.{None}
 use Rattle.window.proofs.Sizes.{is_window_lem, window_range}
 use Rattle.pieces.specs.declared.Order.{Order}
 use Rattle.pieces.specs.Pieces.{bundle_max}
@@ -11,26 +12,24 @@ use Rattle.row.specs.Row.{empty_row}
 use Rattle.row.specs.declared.Phase.TheVariants.{Free}
 use Rattle.row.specs.declared.Row.{Row}
 use Rattle.row.proofs.Shaped.{Shaped}
-use Rattle.reassembly.specs.declared.Delivery.{Delivery}
-use Rattle.reassembly.specs.declared.Delivery.TheVariants.{Nothing}
+use Rattle.reassembly.specs.Delivery.{Delivery}
 use Rattle.rows.specs.Message.{order_of}
-use Rattle.rows.specs.declared.Origin.{Origin}
-use Rattle.rows.specs.declared.Origin.TheVariants.{Whole}
+use Rattle.rows.specs.Origin.{Origin}
 use Rattle.rows.specs.declared.Visit.{Visit}
 use Rattle.rows.proofs.Rows.{length_mapped, get_or_any, sound-window}
 use Rattle.messages.specs.Run.{progressed, size, Run, going}
 use Rattle.messages.specs.declared.Progress.{Progress}
-use Rattle.messages.proofs.Looping.{goes_on, progressed-next, begins, ends, some_left, never_bad, passed, turned, v, at<, treated<, count<, room, place, slot<, fits, admit, found-sound, handed-fits, win, Turn}
+use Rattle.messages.proofs.Looping.{progressed-next, begins, ends, some_left, never_bad, passed, turned, v, at<, treated<, count<, room, place, slot<, fits, admit, found-sound, handed-fits, win, Turn}
 use Rattle.messages.proofs.Cells.{cell-within}
 use Rattle.messages.proofs.Visits.{visited, rows_for, rows-for-full, cleared, cleared-some, cleared-none, opened, opened_some, opened-none}
 use borrow.Author.Rules.{rules}
 use Rattle.messages.specs.declared.Limits.{Limits}
 use Rattle.messages.proofs.run.Goals as goal
-use Rattle.messages.proofs.run.Goals.{In-Good, Joined-v-gt1, Joined-v-gt0, After-cell_turn-t, then-v-gt1, else-v-gt1, then-v-gt0, else-v-gt0, else-loop-limits-test, then-loop-limits-test+in_default}
+use Rattle.messages.proofs.run.Goals.{In-Ok, Joined-v-gt1, Joined-v-gt0, After-cell_turn-t, then-v-gt1, else-v-gt1, then-v-gt0, else-v-gt0}
 
 -- ---- a turn: the message that is read
 
-module _ (c : In-Good) where
+module _ (c : In-Ok) where
   abbrev first : Run
   first = let a = c.args in going a.state a.pool.now a.output.now a.lengths.now a.numbers.now a.from
 
@@ -41,8 +40,8 @@ module _ (c : In-Good) where
   turn = record {
     going = c.loop-limits.invariant;
     test = sym c.more.ensures ∙ c.loop-limits-test.true;
-    span = c.in-Good.m;
-    told = sym c.read_message.ensures ∙ c.in-Good.is;
+    span = c.in-Ok.m;
+    told = sym c.read_message.ensures ∙ c.in-Ok.is;
   }
 
   small : length c.args.frame.now ≤ bundle_max
@@ -57,9 +56,9 @@ module _ (c : In-Good) where
   delivered : (d : Delivery) → size d ≤ bundle_max → (now.progress.treated + 1 < 2 ^ 64) × (now.progress.count + 1 < 2 ^ 64) × (now.progress.used + size d < 2 ^ 64)
   delivered d s = (counted, omega (arith, count< turn, limits.1), omega (arith, s, room turn, c.loop-limits.invariant.output, limits.2))
 
-  later : (q : Progress) (d : Delivery) (origin : Origin) → q ≡ progressed now.progress d c.in-Good.m.end origin → length c.args.frame.now - q.next < length c.args.frame.now - now.progress.next
+  later : (q : Progress) (d : Delivery) (origin : Origin) → q ≡ progressed now.progress d c.in-Ok.m.end origin → length c.args.frame.now - q.next < length c.args.frame.now - now.progress.next
   later q d origin e =
-      let n : q.next ≡ c.in-Good.m.end = ap (λ (y : Progress). y.next) e ∙ progressed-next now.progress d c.in-Good.m.end origin in
+      let n : q.next ≡ c.in-Ok.m.end = ap (λ (y : Progress). y.next) e ∙ progressed-next now.progress d c.in-Ok.m.end origin in
       rw n (omega (arith, (place turn).later, at< turn))
 
 -- ---- the row that the message finds
@@ -128,54 +127,54 @@ pub read_message-requires : goal.read_message-requires
 read_message-requires c = omega (arith, some_left c.loop-limits.invariant (sym c.more.ensures ∙ c.loop-limits-test.true))
 
 pub progressed-progress-requires : goal.progressed-progress-requires
-progressed-progress-requires c = delivered (goal.at.progressed-progress-requires c).In-Good Nothing (omega arith)
+progressed-progress-requires c = delivered (goal.at.progressed-progress-requires c).In-Ok None (omega arith)
 
 pub loop-limits-smaller-in-Skipped : goal.loop-limits-smaller-in-Skipped
-loop-limits-smaller-in-Skipped c = later (goal.at.loop-limits-smaller-in-Skipped c).In-Good c.progressed-progress.result Nothing Whole c.progressed-progress.ensures
+loop-limits-smaller-in-Skipped c = later (goal.at.loop-limits-smaller-in-Skipped c).In-Ok c.progressed-progress.result None None c.progressed-progress.ensures
 
 pub loop-limits-preserved-in-Skipped : goal.loop-limits-preserved-in-Skipped
-loop-limits-preserved-in-Skipped c = rw c.progressed-progress.ensures (passed (turn (goal.at.loop-limits-preserved-in-Skipped c).In-Good) c.in-Skipped.is)
+loop-limits-preserved-in-Skipped c = rw c.progressed-progress.ensures (passed (turn (goal.at.loop-limits-preserved-in-Skipped c).In-Ok) c.in-Skipped.is)
 
 pub slice_bounds-content-count : goal.slice_bounds-content-count
-slice_bounds-content-count c = (place (turn (goal.at.slice_bounds-content-count c).In-Good)).ordered
+slice_bounds-content-count c = (place (turn (goal.at.slice_bounds-content-count c).In-Ok)).ordered
 
 pub slice_bounds-content-start : goal.slice_bounds-content-start
-slice_bounds-content-start c = let l = place (turn (goal.at.slice_bounds-content-start c).In-Good) in omega (arith, l.ordered, l.within)
+slice_bounds-content-start c = let l = place (turn (goal.at.slice_bounds-content-start c).In-Ok) in omega (arith, l.ordered, l.within)
 
 pub slice_bounds-content-end : goal.slice_bounds-content-end
-slice_bounds-content-end c = let l = place (turn (goal.at.slice_bounds-content-end c).In-Good) in omega (arith, l.ordered, l.within)
+slice_bounds-content-end c = let l = place (turn (goal.at.slice_bounds-content-end c).In-Ok) in omega (arith, l.ordered, l.within)
+
+pub invariant_of-window : goal.invariant_of-window
+invariant_of-window c = record { sized = is_window_lem _ (win (turn (goal.at.invariant_of-window c).In-Ok)) }
 
 pub visit_of-v-requires : goal.visit_of-v-requires
-visit_of-v-requires c = let t = turn (goal.at.visit_of-v-requires c).In-Good in (is_window_lem _ (win t), fits t)
-
-pub freed-rows-requires : goal.freed-rows-requires
-freed-rows-requires c = is_window_lem _ (win (turn (goal.at.freed-rows-requires c).In-Good))
+visit_of-v-requires c = fits (turn (goal.at.visit_of-v-requires c).In-Ok)
 
 pub offset_bounds-rows-slot : goal.offset_bounds-rows-slot
-offset_bounds-rows-slot c = omega (arith, slot-below (turn (goal.at.offset_bounds-rows-slot c).In-Good) _ c.visit_of-v.ensures)
+offset_bounds-rows-slot c = omega (arith, slot-below (turn (goal.at.offset_bounds-rows-slot c).In-Ok) _ c.visit_of-v.ensures)
 
 pub bounds-rows-slot : goal.bounds-rows-slot
-bounds-rows-slot c = slot-below (turn (goal.at.bounds-rows-slot c).In-Good) _ c.visit_of-v.ensures
+bounds-rows-slot c = slot-below (turn (goal.at.bounds-rows-slot c).In-Ok) _ c.visit_of-v.ensures
 
 pub offset_bounds-rows-slot-in-loop-limits : goal.offset_bounds-rows-slot-in-loop-limits
-offset_bounds-rows-slot-in-loop-limits c = omega (arith, slot-below (turn (goal.at.offset_bounds-rows-slot-in-loop-limits c).In-Good) _ c.visit_of-v.ensures)
+offset_bounds-rows-slot-in-loop-limits c = omega (arith, slot-below (turn (goal.at.offset_bounds-rows-slot-in-loop-limits c).In-Ok) _ c.visit_of-v.ensures)
 
 pub bounds-rows-slot-in-loop-limits : goal.bounds-rows-slot-in-loop-limits
-bounds-rows-slot-in-loop-limits c = slot-below (turn (goal.at.bounds-rows-slot-in-loop-limits c).In-Good) _ c.visit_of-v.ensures
+bounds-rows-slot-in-loop-limits c = slot-below (turn (goal.at.bounds-rows-slot-in-loop-limits c).In-Ok) _ c.visit_of-v.ensures
 
 pub cell_turn-t-requires : goal.cell_turn-t-requires
 cell_turn-t-requires c =
-    let h = (goal.at.cell_turn-t-requires c).In-Good in
+    let h = (goal.at.cell_turn-t-requires c).In-Ok in
     let t = turn h in
     let e = c.visit_of-v.ensures in
     let er = joined3 (goal.at.cell_turn-t-requires c).Joined-v-gt0 (joined2 (goal.at.cell_turn-t-requires c).Joined-v-gt1) in
     (rw (row_is t _ e c.if-v-gt0.rows er vacant) (found-sound t), rw e (admit t (small h)), cell-within c.args.state.settings.window c.loop-limits.pool c.loop-limits.invariant.ready.pool c.visit_of-v.result.slot (slot-in t _ e), room t)
 
 pub offset_bounds-rows-slot-in-loop-limits-2 : goal.offset_bounds-rows-slot-in-loop-limits-2
-offset_bounds-rows-slot-in-loop-limits-2 c = omega (arith, slot-below (turn (goal.at.offset_bounds-rows-slot-in-loop-limits-2 c).In-Good) _ c.visit_of-v.ensures)
+offset_bounds-rows-slot-in-loop-limits-2 c = omega (arith, slot-below (turn (goal.at.offset_bounds-rows-slot-in-loop-limits-2 c).In-Ok) _ c.visit_of-v.ensures)
 
 pub bounds-rows-slot-in-loop-limits-2 : goal.bounds-rows-slot-in-loop-limits-2
-bounds-rows-slot-in-loop-limits-2 c = slot-below (turn (goal.at.bounds-rows-slot-in-loop-limits-2 c).In-Good) _ c.visit_of-v.ensures
+bounds-rows-slot-in-loop-limits-2 c = slot-below (turn (goal.at.bounds-rows-slot-in-loop-limits-2 c).In-Ok) _ c.visit_of-v.ensures
 
 -- the row has 64 entries, and what it hands out is no longer than a bundle
 shaped : (c : After-cell_turn-t) → Shaped (get_or c.if-v-gt0.rows c.visit_of-v.result.slot vacant)
@@ -183,7 +182,7 @@ shaped c = record { indexes64 = c.cell_turn-t.ensures.1; lengths64 = c.cell_turn
 
 pub list_bundle-requires : goal.list_bundle-requires
 list_bundle-requires c =
-    let h = (goal.at.list_bundle-requires c).In-Good in
+    let h = (goal.at.list_bundle-requires c).In-Ok in
     let t = turn h in
     let e = c.visit_of-v.ensures in
     let er = joined3 (goal.at.list_bundle-requires c).Joined-v-gt0 (joined2 (goal.at.list_bundle-requires c).Joined-v-gt1) in
@@ -192,7 +191,7 @@ list_bundle-requires c =
 pub progressed-progress-requires-in-loop-limits : goal.progressed-progress-requires-in-loop-limits
 progressed-progress-requires-in-loop-limits c =
     let g = goal.at.progressed-progress-requires-in-loop-limits c in
-    let h = g.In-Good in
+    let h = g.In-Ok in
     let t = turn h in
     let e = c.visit_of-v.ensures in
     let er = joined3 g.Joined-v-gt0 (joined2 g.Joined-v-gt1) in
@@ -201,12 +200,12 @@ progressed-progress-requires-in-loop-limits c =
 
 pub loop-limits-smaller : goal.loop-limits-smaller
 loop-limits-smaller c =
-    later (goal.at.loop-limits-smaller c).In-Good c.progressed-progress-in-loop-limits.result c.cell_turn-t.result.delivery c.visit_of-v.result.origin c.progressed-progress-in-loop-limits.ensures
+    later (goal.at.loop-limits-smaller c).In-Ok c.progressed-progress-in-loop-limits.result c.cell_turn-t.result.delivery c.visit_of-v.result.origin c.progressed-progress-in-loop-limits.ensures
 
 pub loop-limits-preserved : goal.loop-limits-preserved
 loop-limits-preserved c =
     let g = goal.at.loop-limits-preserved c in
-    let h = g.In-Good in
+    let h = g.In-Ok in
     let t = turn h in
     let e = c.visit_of-v.ensures in
     let er = joined3 g.Joined-v-gt0 (joined2 g.Joined-v-gt1) in
@@ -214,26 +213,11 @@ loop-limits-preserved c =
     turned t (small h) c.visit_of-v.result e c.if-v-gt0.rows er _ (row-found t _ e c.if-v-gt0.rows er vacant) (shaped g.After-cell_turn-t) low
     c.cell_turn-t.result _ _ c.cell_turn-t.ensures.0 _ c.list_bundle.ensures.0 _ c.list_bundle.ensures.1 c.progressed-progress-in-loop-limits.result c.progressed-progress-in-loop-limits.ensures
 
-pub shape_of-pool : goal.shape_of-pool
-shape_of-pool c = c.loop-limits.invariant.ready.pool ∙ sym c.requires.0.pooled
-
-pub shape_of-output : goal.shape_of-output
-shape_of-output c = c.loop-limits.invariant.output
-
-pub shape_of-lengths : goal.shape_of-lengths
-shape_of-lengths c = c.loop-limits.invariant.lengths
-
-pub shape_of-numbers : goal.shape_of-numbers
-shape_of-numbers c = c.loop-limits.invariant.numbers
-
 -- the loop is left where its test fails; no message is bad
-pub returns : goal.returns
-returns c =
+pub returns-after-loop-limits : goal.returns-after-loop-limits
+returns-after-loop-limits c =
     let g = c.loop-limits.invariant in
-    let test = sym c.more.ensures in
-    let over : goes_on c.args.limits c.args.frame.now (going (record { present = c.loop-limits.present; greatest = c.loop-limits.greatest; rows = c.loop-limits.rows; settings = c.args.state.settings }) c.loop-limits.pool c.loop-limits.output c.loop-limits.lengths c.loop-limits.numbers c.loop-limits.progress) ≡ false =
-    elim c.loop-limits-test.branch [
-      | else-loop-limits-test w ↦ test ∙ w.loop-limits-test.false
-      | then-loop-limits-test+in_default w ↦ never_bad g (test ∙ w.loop-limits-test.true) _ (sym w.read_message.ensures ∙ w.in_default.is)
-    ] in
-    rw c.ended.ensures (ends g over, record { sound = g.ready.sound; pooled = g.ready.pool; used = omega (arith, g.used, g.output) })
+    (ends g (sym c.more.ensures ∙ c.loop-limits-test.false), record { sound = g.ready.sound; pooled = g.ready.pool; used = omega (arith, g.used, g.output) })
+
+pub returns-in_default : goal.returns-in_default
+returns-in_default c = never_bad c.loop-limits.invariant (sym c.more.ensures ∙ c.loop-limits-test.true) _ (sym c.read_message.ensures ∙ c.in_default.is)

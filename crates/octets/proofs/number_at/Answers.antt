@@ -1,4 +1,4 @@
--- `octets::number_at` meets its contract.
+-- The octets at the position are those at the head of what is left from there on.
 use native.Mathlib.Nat.{add-zero}
 use native.Mathlib.Omega.{arith}
 use lib.Seq.{get_or-drop}

@@ -1,7 +1,6 @@
--- `octets::put_number16` meets its contract.
 use Rattle.octets.specs.Octets.{be16}
 use Rattle.octets.proofs.put_number16.Goals as goal
 
 pub returns : goal.returns
 unfolding be16
-returns c = c.put_two.ensures
+returns c = rw c.to_be_bytes.ensures at c.put_array.ensures

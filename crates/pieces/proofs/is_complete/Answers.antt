@@ -1,25 +1,27 @@
--- `pieces::is_complete` meets its contract. Entries fewer than the indexes up to the final are not all of them; else the search tells. Assumes nothing.
-use mathlib.Core.Path.{◌≡◌, refl, sym}
+-- `pieces::is_complete` meets its contract. Entries fewer than the indexes up to the final are not all of them; else the search tells.
+use mathlib.Core.Path.{◌≡◌, refl, sym, ◌∙◌}
 use mathlib.Mathlib.Data.Bool.Basic.{eq-false-eq-not-eq-true}
 use mathlib.Core.Bool.{Bool, true, false, ◌&&◌}
 use mathlib.Core.List.{List}
 use Prim.Native.Nat.{ℕ, ◌+◌, ◌≤◌}
 use native.Mathlib.Omega.{arith}
-use lib.ListN.{length, take}
-use lib.Seq.{length-take-le}
-use lib.Dec.{ltb}
+use lib.ListN.{length}
 use borrow.Author.Tests.{ltb-false}
-use Rattle.octets.proofs.Flags.{both}
 use Rattle.pieces.proofs.Counting.{all-count}
 use Rattle.pieces.specs.Pieces.{has_all}
+use Rattle.pieces.proofs.is_complete.Goals.{then-known, else-known}
 use Rattle.pieces.proofs.is_complete.Goals as goal
 
-lacks : (known : Bool) (last n held : ℕ) (is : List ℕ) → held ≤ length is → n ≡ last → (known && ltb n held) ≡ false → false ≡ (known && has_all (last + 1) (take held is))
-lacks true last n held is h s e = sym ((eq-false-eq-not-eq-true (has_all (last + 1) (take held is))).0 (λ a. omega (arith, all-count (last + 1) (take held is) a, length-take-le held is h, ltb-false n held e)))
-lacks false last n held is h s e = refl
+lacks : (known : Bool) (last : ℕ) (is : List ℕ) → (known ≡ true → length is ≤ last) → (known && has_all (last + 1) is) ≡ false
+lacks true last is h = (eq-false-eq-not-eq-true (has_all (last + 1) is)).0 (λ a. omega (arith, all-count (last + 1) is a, h refl))
+lacks false last is h = refl
 
-pub returns-then-known-octet_size : goal.returns-then-known-octet_size
-returns-then-known-octet_size c = rw (both c.args.known _ c.if-known-octet_size.true).0 c.all_held.ensures
+few : (c : goal.Else-last-indexes) → c.args.known ≡ true → length c.args.indexes.now ≤ c.args.last
+few c k =
+    elim c.if-known.branch [
+      | then-known w ↦ ltb-false c.args.last (length c.args.indexes.now) (sym w.value-is ∙ c.if-last-indexes.false)
+      | else-known w ↦ absurd (cc)
+    ]
 
-pub returns : goal.returns
-returns c = lacks c.args.known _ _ _ _ c.requires.0 c.octet_size.ensures.0 c.if-known-octet_size.false
+pub returns-else-last-indexes : goal.returns-else-last-indexes
+returns-else-last-indexes c = c.if-last-indexes.false ∙ sym (lacks c.args.known c.args.last c.args.indexes.now (few c))

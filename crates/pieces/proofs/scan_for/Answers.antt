@@ -1,15 +1,15 @@
 use mathlib.Core.Path.{refl}
 use native.Mathlib.Omega.{arith}
-use Rattle.pieces.proofs.Lists.{has-turn, above-turn, has_end, above-end}
+use Rattle.pieces.proofs.Lists.{has-next, above-next}
+use Rattle.pieces.specs.Pieces.{has, has_above}
 use Rattle.pieces.proofs.scan_for.Goals as goal
 
-pub loop-k-init : goal.loop-k-init
-loop-k-init c = (refl, refl)
+pub loop-x-init : goal.loop-x-init
+unfolding has has_above
+loop-x-init c = (refl, refl)
 
-pub loop-k-preserved : goal.loop-k-preserved
-loop-k-preserved c =
-    let l = c.loop-k in let a = c.args in (has-turn a.index l.k a.held a.indexes.now _ l.found (omega arith) (omega arith) l.invariant.0, above-turn a.index l.k a.held a.indexes.now _ l.above (omega arith) (omega arith) l.invariant.1)
-
-pub returns : goal.returns
-returns c =
-    let l = c.loop-k in let a = c.args in record { held = has_end a.index l.k a.held a.indexes.now _ l.found (omega arith) (omega arith) l.invariant.0; above = above-end a.index l.k a.held a.indexes.now _ l.above (omega arith) (omega arith) l.invariant.1 }
+pub loop-x-preserved : goal.loop-x-preserved
+loop-x-preserved c =
+    let l = c.loop-x in
+    let a = c.args in
+    (rw l.invariant.0 (has-next a.index l.x-index a.indexes.now (omega arith)), rw l.invariant.1 (above-next a.index l.x-index a.indexes.now (omega arith)))

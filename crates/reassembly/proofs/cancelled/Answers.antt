@@ -1,4 +1,4 @@
--- `reassembly::cancelled` meets its contract. By the phase. Assumes nothing.
+-- `reassembly::cancelled` meets its contract. By the phase.
 use Rattle.reassembly.specs.Rules.{cancelled}
 use Rattle.reassembly.proofs.cancelled.Goals as goal
 
@@ -6,6 +6,6 @@ pub returns-then-is_live : goal.returns-then-is_live
 unfolding cancelled
 returns-then-is_live c = rw (← c.is_live.ensures, c.if-is_live.true) c.empty_row.ensures
 
-pub returns : goal.returns
+pub returns-else-is_live : goal.returns-else-is_live
 unfolding cancelled
-returns c = rw (← c.is_live.ensures, c.if-is_live.false)
+returns-else-is_live c = rw (← c.is_live.ensures, c.if-is_live.false)

@@ -1,4 +1,4 @@
--- `reassembly::take_piece` meets its contract. By the verdict; an accepted piece has room in the row and in the cell. Assumes nothing.
+-- `reassembly::take_piece` meets its contract. By the verdict; an accepted piece has room in the row and in the cell.
 use mathlib.Core.Path.{◌≡◌, refl, sym, ◌∙◌}
 use native.Mathlib.Omega.{arith}
 use lib.ListN.{length}
@@ -19,7 +19,7 @@ shaped c = record { indexes64 = search rules; lengths64 = search rules }
 taken : (c : After-accept-arg-1) →
     let a = c.args in
     Accepted a.row a.ending a.index (length a.payload.now) × (c.in-Accepts.at ≡ sum_of (lengths_of a.row))
-taken c = accepted _ _ _ _ _ (sym c.judge-v.ensures ∙ c.in-Accepts.is)
+taken c = accepted _ _ _ _ _ (sym c.judge.ensures ∙ c.in-Accepts.is)
 
 next : (c : After-accept-arg-1) →
     let a = c.args in
@@ -40,13 +40,13 @@ accept-requires c =
 pub returns-in-Stays : goal.returns-in-Stays
 unfolding piece_step carry_out delivery_of written
 returns-in-Stays c =
-    rw (← c.judge-v.ensures, c.in-Stays.is) (record { row = refl; delivery = refl; cell = refl; output = refl })
+    rw (← c.judge.ensures, c.in-Stays.is) (record { row = refl; delivery = refl; cell = refl; output = refl })
 
 pub returns-in-Abandons : goal.returns-in-Abandons
 unfolding piece_step carry_out delivery_of written
 returns-in-Abandons c =
-    rw (← c.judge-v.ensures, c.in-Abandons.is) (record { row = c.empty_row.ensures; delivery = refl; cell = refl; output = refl })
+    rw (← c.judge.ensures, c.in-Abandons.is) (record { row = c.empty_row.ensures; delivery = refl; cell = refl; output = refl })
 
 pub returns-in-Accepts : goal.returns-in-Accepts
 unfolding piece_step carry_out
-returns-in-Accepts c = rw (← c.judge-v.ensures, c.in-Accepts.is) c.accept.ensures
+returns-in-Accepts c = rw (← c.judge.ensures, c.in-Accepts.is) c.accept.ensures

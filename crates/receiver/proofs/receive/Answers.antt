@@ -3,14 +3,15 @@ use mathlib.Core.Option.{Option, none}
 use mathlib.Core.Path.{◌≡◌, sym, ap, ◌∙◌}
 use Prim.Native.Nat.{ℕ}
 use native.Mathlib.Omega.{arith}
+use Rattle.std.proofs.Common.{None}
 use Rattle.wire.proofs.Spans.{sized}
 use Rattle.rows.specs.State.{window_of}
 use Rattle.rows.specs.Message.{draft_of, Board, messages_from}
 use Rattle.receiver.specs.Receive.{refusal}
 use Rattle.receiver.specs.declared.Refusal.{Refusal}
-use Rattle.rows.specs.declared.Origin.TheVariants.{Whole}
 use Rattle.receiver.proofs.Limit.{reply_of, one-bundle, few_messages}
-use Rattle.receiver.proofs.Refusals.{denied, admitted, refused, treated, Admits, admits}
+use Rattle.octets.proofs.Admitting.{denied, admitted}
+use Rattle.receiver.proofs.Refusals.{refused, treated, Admits, admits}
 use Rattle.rows.specs.declared.State.{State}
 use mathlib.Core.List.{List}
 use Prim.Native.Nat.{ℕ}
@@ -27,15 +28,15 @@ module _ (s : State) (pool : List ℕ) where
 -- a call that is not refused
 module _ (c : In_default) where
   none-applies : (let a = c.args in asked a.state a.pool.now a.frame.now a.place a.output.now) ≡ none
-  none-applies = let a = c.args in admitted (asked a.state a.pool.now a.frame.now a.place a.output.now) (sym c.admit-a.ensures ∙ c.in_default.is)
+  none-applies = let a = c.args in admitted (asked a.state a.pool.now a.frame.now a.place a.output.now) (sym c.admit.ensures ∙ c.in_default.is)
 
   admitting : let a = c.args in Admits (draft_of a.state) (window_of a.state) (board a.state a.pool.now) a.frame.now a.place a.output.now
   admitting = let a = c.args in admits (draft_of a.state) (window_of a.state) (board a.state a.pool.now) a.frame.now a.place a.output.now none-applies
 
-pub returns-in-Denied : goal.returns-in-Denied
-returns-in-Denied c =
+pub returns-in-Err : goal.returns-in-Err
+returns-in-Err c =
     let a = c.args in
-    sym (refused (draft_of a.state) (window_of a.state) (board a.state a.pool.now) a.frame.now a.place a.output.now _ (denied (asked a.state a.pool.now a.frame.now a.place a.output.now) _ (sym c.admit-a.ensures ∙ c.in-Denied.is)))
+    sym (refused (draft_of a.state) (window_of a.state) (board a.state a.pool.now) a.frame.now a.place a.output.now _ (denied (asked a.state a.pool.now a.frame.now a.place a.output.now) _ (sym c.admit.ensures ∙ c.in-Err.is)))
 
 pub run-r-requires : goal.run-r-requires
 run-r-requires c =
@@ -51,5 +52,5 @@ returns c =
     let f = admitting (goal.at.returns c).In_default in
     rw c.answer_of.ensures
     (ap reply_of (rw c.begun.ensures at c.run-r.ensures.0)
-    ∙ one-bundle D w _ _ _ 0 b (messages_from D a.frame.now a.place) a.output.now a.place Whole f.room (omega (arith, few_messages D (sized a.state.settings.version) a.frame.now a.place f.frame-fit.accepted, f.frame-fit.small))
+    ∙ one-bundle D w _ _ _ 0 b (messages_from D a.frame.now a.place) a.output.now a.place None f.room (omega (arith, few_messages D (sized a.state.settings.version) a.frame.now a.place f.frame-fit.accepted, f.frame-fit.small))
     ∙ sym (treated D w b a.frame.now a.place a.output.now (none-applies (goal.at.returns c).In_default)))

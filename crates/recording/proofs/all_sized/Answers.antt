@@ -1,22 +1,13 @@
-use mathlib.Core.Path.{refl}
-use native.Mathlib.Omega.{arith}
-use Rattle.recording.proofs.Lengths.{sized-turn, sized-end}
+-- `recording::all_sized` meets its contract.
+use Rattle.std.proofs.Common.{sym, ◌∙◌, ◌&&◌, rules, tests}
+use Rattle.std.specs.Prelude.{nat_le}
+use Rattle.std.proofs.lemmas.Iterator.{YieldsList-from_slice}
+use Rattle.std.proofs.lemmas.Iterator.Search.{all_from_yields_List}
+use Rattle.wire.specs.Frame.{frame_max}
+use Rattle.recording.proofs.Lengths.{sized-is}
 use Rattle.recording.proofs.all_sized.Goals as goal
-
-pub loop-k-init : goal.loop-k-init
-loop-k-init c = (omega arith, refl)
-
-pub overflow_cast-n : goal.overflow_cast-n
-overflow_cast-n c = omega (arith, c.shared_slice_known-1.given c.loop-k.k)
-
-pub loop-k-preserved : goal.loop-k-preserved
-loop-k-preserved c =
-    let l = c.loop-k in
-    let a = c.args in
-    (omega arith, sized-turn a.lengths.now l.good l.k l.invariant.1 (omega arith))
 
 pub returns : goal.returns
 returns c =
-    let l = c.loop-k in
-    let a = c.args in
-    sized-end a.lengths.now l.good l.k l.invariant.1 (omega arith)
+    all_from_yields_List (λ n. nat_le 1 n && nat_le n frame_max) _ _ c.all.result c.all.ensures.ran (YieldsList-from_slice c.args.lengths.now cc) (λ x b q k. search (rules, tests))
+    ∙ sym (sized-is c.args.lengths.now)

@@ -1,80 +1,99 @@
 -- `recording::open` meets its contract.
-use Rattle.recording.specs.Recording.{frames_max, octets_max, read, opened}
+use Rattle.std.proofs.lemmas.Result.{err_from_is_err_and}
+use Rattle.octets.specs.Octets.{pairs}
+use Rattle.octets.proofs.Put.{put_reaches}
+use Rattle.recording.specs.Recording.{frames_max, octets_max, blank, opened}
 use Rattle.recording.proofs.Lengths.{lengths_front}
-use Rattle.recording.proofs.Reading.{Counted, unevenly, left, opens, opened-parts}
+use Rattle.recording.proofs.Reading.{Count, Counted, count-ok, no_frames, no_octets, cut_short, counts, unevenly, left, opens, opened-parts}
 use Rattle.octets.proofs.Pairs.{length_pairs}
-use mathlib.Core.Path.{sym, ◌∙◌}
-use Prim.Native.Nat.{◌+◌, ◌*◌}
+use mathlib.Core.Path.{◌≡◌, refl, sym, ◌∙◌}
+use Prim.Native.Nat.{◌+◌, ◌-◌, ◌*◌}
 use native.Mathlib.Omega.{arith}
-use lib.ListN.{length, drop}
-use borrow.Author.Tests.{lt-ltb, le-ltb}
+use lib.ListN.{drop}
+use Rattle.recording.proofs.open.Goals.{In_ok-frames, In_ok-octets, Else-size-end}
 use Rattle.recording.proofs.open.Goals as goal
 
-pub returns-then-size-lt4 : goal.returns-then-size-lt4
-unfolding read opened
-returns-then-size-lt4 c =
-    let xs = c.args.recording.now in
-    rw (lt-ltb (length xs) 4 c.if-size-lt4.true) c.unreadable.ensures
+frames : (c : goal.In_ok-frames) → Count c.args.recording.now 0 frames_max c.in_ok-frames.frames
+frames c = count-ok c.args.recording.now 0 frames_max _ (sym c.count_at.ensures ∙ c.in_ok-frames.was)
 
-pub returns-then-n-gt-FRAMES_MAX : goal.returns-then-n-gt-FRAMES_MAX
-unfolding read opened
-returns-then-n-gt-FRAMES_MAX c =
-    let xs = c.args.recording.now in
-    rw (le-ltb (length xs) 4 c.if-size-lt4.false, ← c.number_at-n.ensures, lt-ltb frames_max c.number_at-n.result c.if-n-gt-FRAMES_MAX.true) c.unreadable-then-n-gt-FRAMES_MAX.ensures
+octets : (c : goal.In_ok-octets) → Count c.args.recording.now (4 + c.in_ok-frames.frames * 2) octets_max c.in_ok-octets.octets
+octets c =
+    let count : c.octets_start-start.result - 4 ≡ 4 + c.in_ok-frames.frames * 2 = omega arith in
+    count-ok c.args.recording.now _ octets_max _ (sym (rw count at c.count_at-2.ensures) ∙ c.in_ok-octets.was)
 
-pub returns-then-size-n : goal.returns-then-size-n
-unfolding read opened
-returns-then-size-n c =
-    let xs = c.args.recording.now in
-    let n = c.number_at-n.result in
-    rw (le-ltb (length xs) 4 c.if-size-lt4.false, ← c.number_at-n.ensures, le-ltb frames_max n c.if-n-gt-FRAMES_MAX.false, lt-ltb (length xs) (8 + n * 2) c.if-size-n.true) c.unreadable-then-size-n.ensures
+-- both counts are within their limits, and all that they promise is there
+counted : (c : goal.Else-size-end) → Counted c.args.recording.now c.in_ok-frames.frames c.in_ok-octets.octets
+counted c = counts c.args.recording.now _ (frames (goal.at.lengths_of-lengths-requires c).In_ok-frames) _ (octets (goal.at.lengths_of-lengths-requires c).In_ok-octets) (omega arith)
 
-pub returns-then-m-gt-OCTETS_MAX : goal.returns-then-m-gt-OCTETS_MAX
-unfolding read opened
-returns-then-m-gt-OCTETS_MAX c =
-    let xs = c.args.recording.now in
-    let n = c.number_at-n.result in
-    rw (le-ltb (length xs) 4 c.if-size-lt4.false, ← c.number_at-n.ensures, le-ltb frames_max n c.if-n-gt-FRAMES_MAX.false, le-ltb (length xs) (8 + n * 2) c.if-size-n.false, ← c.number_at-m.ensures, lt-ltb octets_max c.number_at-m.result c.if-m-gt-OCTETS_MAX.true) c.unreadable-then-m-gt-OCTETS_MAX.ensures
+pub returns-in_err-frames : goal.returns-in_err-frames
+unfolding opened
+returns-in_err-frames c =
+    let p = err_from_is_err_and c.from_residual.result c.from_residual.ensures.1 in
+    rw (p.1, p.2, no_frames c.args.recording.now _ (sym c.count_at.ensures ∙ c.in_err-frames.was)) refl
+
+pub octets_start-start-requires : goal.octets_start-start-requires
+octets_start-start-requires c = let F = frames c in omega arith
+
+pub count_at-requires-2 : goal.count_at-requires-2
+count_at-requires-2 c = let F = frames (goal.at.count_at-requires-2 c).In_ok-frames in omega arith
+
+pub returns-in_err-octets : goal.returns-in_err-octets
+unfolding opened
+returns-in_err-octets c =
+    let p = err_from_is_err_and c.from_residual-in_err-octets.result c.from_residual-in_err-octets.ensures.1 in
+    let count : c.octets_start-start.result - 4 ≡ 4 + c.in_ok-frames.frames * 2 = omega arith in
+    rw (p.1, p.2, no_octets c.args.recording.now _ (frames (goal.at.returns-in_err-octets c).In_ok-frames) _ (sym (rw count at c.count_at-2.ensures) ∙ c.in_err-octets.was)) refl
+
+pub overflow_add-end : goal.overflow_add-end
+overflow_add-end c =
+    let F = frames (goal.at.overflow_add-end c).In_ok-frames in
+    let O = octets c in
+    omega arith
 
 pub returns-then-size-end : goal.returns-then-size-end
-unfolding read opened
+unfolding opened
 returns-then-size-end c =
-    let xs = c.args.recording.now in
-    let n = c.number_at-n.result in
-    let m = c.number_at-m.result in
-    rw (le-ltb (length xs) 4 c.if-size-lt4.false, ← c.number_at-n.ensures, le-ltb frames_max n c.if-n-gt-FRAMES_MAX.false, le-ltb (length xs) (8 + n * 2) c.if-size-n.false, ← c.number_at-m.ensures, le-ltb octets_max m c.if-m-gt-OCTETS_MAX.false, lt-ltb (length xs) (8 + n * 2 + m) c.if-size-end.true) c.unreadable-then-size-end.ensures
+    let F = frames (goal.at.returns-then-size-end c).In_ok-frames in
+    let O = octets (goal.at.returns-then-size-end c).In_ok-octets in
+    rw (cut_short c.args.recording.now _ F _ O (omega arith)) refl
+
+pub lengths_of-lengths-requires : goal.lengths_of-lengths-requires
+lengths_of-lengths-requires c =
+    let F = frames (goal.at.lengths_of-lengths-requires c).In_ok-frames in
+    (F.few, omega arith)
+
+pub slice_bounds-lengths-end : goal.slice_bounds-lengths-end
+slice_bounds-lengths-end c =
+    let lengths = pairs c.in_ok-frames.frames (drop 4 c.args.recording.now) in
+    rw c.lengths_of-lengths.ensures (omega (arith, put_reaches blank 0 lengths (omega arith), length_pairs c.in_ok-frames.frames (drop 4 c.args.recording.now)))
 
 pub slice_bounds-weigh-end : goal.slice_bounds-weigh-end
 slice_bounds-weigh-end c = rw (lengths_front _ _ _ _ c.lengths_of-lengths.ensures, length_pairs)
 
-pub weigh-v-requires : goal.weigh-v-requires
-weigh-v-requires c = rw (lengths_front _ _ _ _ c.lengths_of-lengths.ensures, length_pairs) (omega arith)
-
-pub returns-in-Unfit : goal.returns-in-Unfit
+pub returns-in_err-weigh : goal.returns-in_err-weigh
 unfolding opened
-returns-in-Unfit c =
+returns-in_err-weigh c =
     let xs = c.args.recording.now in
-    let n = c.number_at-n.result in
-    let m = c.number_at-m.result in
-    let k : Counted xs n m = record { frames = c.number_at-n.ensures; few = c.if-n-gt-FRAMES_MAX.false; octets = c.number_at-m.ensures; small = c.if-m-gt-OCTETS_MAX.false; there = c.if-size-end.false } in
+    let n = c.in_ok-frames.frames in
+    let K = counted (goal.at.returns-in_err-weigh c).Else-size-end in
     let front = lengths_front _ _ (drop 4 xs) n c.lengths_of-lengths.ensures in
-    rw (unevenly xs n m k _ (rw front at (sym c.weigh-v.ensures ∙ c.in-Unfit.is))) c.unreadable-in-Unfit.ensures
+    let p = err_from_is_err_and c.from_residual-in_err-weigh.result c.from_residual-in_err-weigh.ensures.1 in
+    rw (p.1, p.2, unevenly xs n _ K _ (rw front at (sym c.weigh.ensures ∙ c.in_err-weigh.was))) refl
 
 pub returns-then-end-size : goal.returns-then-end-size
 unfolding opened
 returns-then-end-size c =
     let xs = c.args.recording.now in
-    let n = c.number_at-n.result in
-    let m = c.number_at-m.result in
-    let k : Counted xs n m = record { frames = c.number_at-n.ensures; few = c.if-n-gt-FRAMES_MAX.false; octets = c.number_at-m.ensures; small = c.if-m-gt-OCTETS_MAX.false; there = c.if-size-end.false } in
+    let n = c.in_ok-frames.frames in
+    let K = counted (goal.at.returns-then-end-size c).Else-size-end in
     let front = lengths_front _ _ (drop 4 xs) n c.lengths_of-lengths.ensures in
-    rw (left xs n m k (rw front at (sym c.weigh-v.ensures ∙ c.in_default.is)) c.if-end-size.true) c.unreadable-then-end-size.ensures
+    rw (left xs n _ K (rw front at (sym c.weigh.ensures ∙ c.in_ok-weigh.was)) (omega arith)) refl
 
 pub returns : goal.returns
 returns c =
     let xs = c.args.recording.now in
-    let n = c.number_at-n.result in
-    let m = c.number_at-m.result in
-    let k : Counted xs n m = record { frames = c.number_at-n.ensures; few = c.if-n-gt-FRAMES_MAX.false; octets = c.number_at-m.ensures; small = c.if-m-gt-OCTETS_MAX.false; there = c.if-size-end.false } in
+    let n = c.in_ok-frames.frames in
+    let m = c.in_ok-octets.octets in
+    let K = counted (goal.at.returns c).Else-size-end in
     let front = lengths_front _ _ (drop 4 xs) n c.lengths_of-lengths.ensures in
-    rw (opens xs n m k (rw front at (sym c.weigh-v.ensures ∙ c.in_default.is)) c.if-end-size.false, opened-parts xs n m k, ← c.lengths_of-lengths.ensures)
+    rw (opens xs n m K (rw front at (sym c.weigh.ensures ∙ c.in_ok-weigh.was)) (omega arith), opened-parts xs n m K, ← c.lengths_of-lengths.ensures)

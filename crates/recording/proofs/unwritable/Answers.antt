@@ -1,17 +1,18 @@
 -- `recording::unwritable` meets its contract.
-use lib.ListN.{length}
-use borrow.Author.Tests.{ltb-false}
-use Rattle.octets.proofs.Flags.{neither}
+use Rattle.std.proofs.lemmas.Grind.{common_steps}
+use Rattle.std.proofs.Common.{arith}
 use Rattle.recording.specs.Recording.{unwritable, verdict}
 use Rattle.recording.proofs.unwritable.Goals as goal
+use Rattle.recording.proofs.unwritable.Goals.{then-frames-gt-FRAMES_MAX-via-then-frames-gt-FRAMES_MAX, then-frames-gt-FRAMES_MAX-via-else-frames-gt-FRAMES_MAX+then-frames-gt-OCTETS_MAX}
 
-pub returns-then-lengths-joined : goal.returns-then-lengths-joined
+pub returns-then-frames-gt-FRAMES_MAX : goal.returns-then-frames-gt-FRAMES_MAX
 unfolding unwritable verdict
-returns-then-lengths-joined c = rw c.if-lengths-joined.true
-
-pub weigh-requires : goal.weigh-requires
-weigh-requires c = ltb-false _ (length c.args.lengths.now) (neither _ _ c.if-lengths-joined.false).0
+returns-then-frames-gt-FRAMES_MAX c =
+    elim c.then-frames-gt-FRAMES_MAX.branch [
+      | then-frames-gt-FRAMES_MAX-via-then-frames-gt-FRAMES_MAX w ↦ grind (arith, common_steps, w.if-frames-gt-FRAMES_MAX.true)
+      | then-frames-gt-FRAMES_MAX-via-else-frames-gt-FRAMES_MAX+then-frames-gt-OCTETS_MAX w ↦ grind (arith, common_steps, w.if-frames-gt-OCTETS_MAX.true)
+    ]
 
 pub returns : goal.returns
 unfolding unwritable
-returns c = rw c.if-lengths-joined.false c.weigh.ensures
+returns c = grind (arith, common_steps, c.weigh.ensures)

@@ -1,4 +1,4 @@
--- `row::judge_live` meets its contract. The tests in the definition's order. Assumes nothing.
+-- `row::judge_live` meets its contract. The tests in the definition's order.
 use Prim.Native.Nat.{◌+◌}
 use native.Mathlib.Omega.{arith}
 use lib.ListN.{take}
@@ -13,8 +13,8 @@ pub returns-then-index-gt63 : goal.returns-then-index-gt63
 unfolding judge_live
 returns-then-index-gt63 c = rw (lt-ltb 63 c.args.index c.if-index-gt63.true)
 
-pub scan_for-scan-requires : goal.scan_for-scan-requires
-scan_for-scan-requires c = omega (arith, (sound_facts c.args.row c.requires).few)
+pub shared_ref_as_front-scan_for : goal.shared_ref_as_front-scan_for
+shared_ref_as_front-scan_for c = omega (arith, (sound_facts c.args.row c.requires).few)
 
 pub returns-then-contradicts : goal.returns-then-contradicts
 unfolding judge_live contradicts indexes_of
@@ -27,9 +27,6 @@ unfolding judge_live contradicts indexes_of
 returns-then-scan c =
     let a = c.args in
     rw (le-ltb 63 a.index c.if-index-gt63.false, ← c.scan_for-scan.ensures.held, ← c.scan_for-scan.ensures.above, ← c.contradicts.ensures, c.if-contradicts.false, c.if-scan.true)
-
-pub sum_of-at-requires : goal.sum_of-at-requires
-sum_of-at-requires c = omega (arith, (sound_facts c.args.row c.requires).few)
 
 pub overflow_sub-at : goal.overflow_sub-at
 unfolding lengths_of

@@ -1,7 +1,12 @@
--- `row::sound_empty` meets its contract. The tests in the definition's order. Assumes nothing.
+-- `row::sound_empty` meets its contract. The tests in the definition's order.
+use borrow.Author.Rules.{rules}
 use Rattle.row.specs.Row.{sound_empty}
 use Rattle.row.proofs.sound_empty.Goals as goal
 
-pub returns : goal.returns
+pub returns-then-row-eq0-2 : goal.returns-then-row-eq0-2
 unfolding sound_empty
-returns c = rw c.zero_from-zero.ensures
+returns-then-row-eq0-2 c = search rules
+
+pub returns-else-row-eq0-2 : goal.returns-else-row-eq0-2
+unfolding sound_empty
+returns-else-row-eq0-2 c = search rules

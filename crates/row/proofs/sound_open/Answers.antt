@@ -1,28 +1,49 @@
--- `row::sound_open` meets its contract. The tests in the definition's order. Assumes nothing.
-use mathlib.Core.Path.{sym, ◌∙◌}
+-- `row::sound_open` meets its contract. The tests in the definition's order.
+use mathlib.Core.Path.{◌≡◌, sym, ◌∙◌}
+use mathlib.Core.Bool.{true, ◌&&◌}
+use borrow.Author.Rules.{rules}
 use lib.Dec.{leb}
 use borrow.Author.Tests.{leb-true}
-use Rattle.octets.proofs.Flags.{both}
+use Rattle.octets.proofs.Flags.{and, both}
+use Rattle.row.proofs.Chain.{passed, failed}
 use Rattle.row.proofs.Sound.{pieces_low}
-use Rattle.row.specs.Row.{sound_open}
+use Rattle.row.specs.Row.{sound_open, sound_pieces}
+use Rattle.row.proofs.sound_open.Goals.{After-contains, Then-sound_pieces, then-contains, else-contains}
 use Rattle.row.proofs.sound_open.Goals as goal
 
-pub sound_pieces-requires : goal.sound_pieces-requires
-sound_pieces-requires c = leb-true c.args.row.held 64 (both (leb 1 c.args.row.held) (leb c.args.row.held 64) c.if-held.true).1
+inside : (c : After-contains) → c.contains.result ≡ (leb 1 c.args.row.held && leb c.args.row.held 64)
+inside c = search rules
+
+-- what the first tests say
+sound : (c : Then-sound_pieces) → (c.contains.result ≡ true) × (sound_pieces c.args.row ≡ true)
+sound c =
+    elim c.if-contains.branch [
+      | then-contains w ↦ (w.if-contains.true, sym (w.value-is ∙ w.sound_pieces.ensures) ∙ c.if-sound_pieces.true)
+      | else-contains w ↦ absurd (cc)
+    ]
 
 pub sound_last-requires : goal.sound_last-requires
 sound_last-requires c =
-    let r = c.args.row in
-    (leb-true r.held 64 (both (leb 1 r.held) (leb r.held 64) c.if-held.true).1, pieces_low r (sym c.sound_pieces.ensures ∙ c.if-sound_pieces.true))
+    let held = c.args.row.held in
+    let i = inside (goal.at.sound_last-requires c).After-contains in
+    let s = sound (goal.at.sound_last-requires c).Then-sound_pieces in
+    (leb-true held 64 (both (leb 1 held) (leb held 64) (sym i ∙ s.0)).1, pieces_low c.args.row s.1)
 
 pub returns-then-sound_pieces : goal.returns-then-sound_pieces
 unfolding sound_open
-returns-then-sound_pieces c = rw (c.if-held.true, ← c.sound_pieces.ensures, c.if-sound_pieces.true) c.sound_last.ensures
+returns-then-sound_pieces c =
+    let i = inside (goal.at.returns-then-sound_pieces c).After-contains in
+    let s = sound (goal.at.returns-then-sound_pieces c).Then-sound_pieces in
+    passed _ _ _ (and _ _ (sym i ∙ s.0) s.1) c.sound_last.ensures
 
 pub returns-else-sound_pieces : goal.returns-else-sound_pieces
 unfolding sound_open
-returns-else-sound_pieces c = rw (c.if-held.true, ← c.sound_pieces.ensures, c.if-sound_pieces.false)
-
-pub returns-else-held : goal.returns-else-held
-unfolding sound_open
-returns-else-held c = rw c.if-held.false
+returns-else-sound_pieces c =
+    let i = inside (goal.at.returns-else-sound_pieces c).After-contains in
+    let r = c.args.row in
+    let e : c.if-contains.value ≡ ((leb 1 r.held && leb r.held 64) && sound_pieces r) =
+    elim c.if-contains.branch [
+      | then-contains w ↦ passed _ _ _ (sym i ∙ w.if-contains.true) (w.value-is ∙ w.sound_pieces.ensures)
+      | else-contains w ↦ failed _ _ _ (sym i ∙ w.if-contains.false) (w.value-is ∙ i)
+    ] in
+    failed _ _ _ (sym e ∙ c.if-sound_pieces.false) e

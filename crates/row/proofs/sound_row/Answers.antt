@@ -1,4 +1,4 @@
--- `row::sound_row` meets its contract. By the phase. Assumes nothing.
+-- `row::sound_row` meets its contract. By the phase.
 use Rattle.row.specs.Row.{sound_row}
 use Rattle.row.proofs.sound_row.Goals as goal
 
@@ -6,6 +6,6 @@ pub returns-then-is_open : goal.returns-then-is_open
 unfolding sound_row
 returns-then-is_open c = rw (← c.is_open.ensures, c.if-is_open.true) c.sound_open.ensures
 
-pub returns : goal.returns
+pub returns-else-is_open : goal.returns-else-is_open
 unfolding sound_row
-returns c = rw (← c.is_open.ensures, c.if-is_open.false) c.sound_empty.ensures
+returns-else-is_open c = rw (← c.is_open.ensures, c.if-is_open.false) c.sound_empty.ensures

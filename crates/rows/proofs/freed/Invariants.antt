@@ -1,13 +1,9 @@
 -- `rows::freed` meets its contract.
 use mathlib.Core.Path.{◌≡◌}
-use Prim.Native.Nat.{◌≤◌, ◌-◌}
+use Prim.Native.Nat.{◌≤◌}
 use lib.ListN.{length}
 use Rattle.rows.specs.Message.{freed_from}
 use Rattle.rows.proofs.freed.Given as goal
 
 abbrev pub invariant-loop-j : goal.invariant-loop-j
-invariant-loop-j l =
-    (l.j ≤ l.count) × (l.count ≤ l.window) × (l.next ≡ freed_from l.window 0 l.greatest l.j l.initial.next) × (length l.next ≡ 16)
-
-abbrev pub decreases-loop-j : goal.decreases-loop-j
-decreases-loop-j l = l.count - l.j
+invariant-loop-j l = (l.j-end ≤ l.window.size) × (l.next ≡ freed_from l.window.size 0 l.window.greatest l.j l.initial.next) × (length l.next ≡ 16)

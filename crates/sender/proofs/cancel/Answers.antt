@@ -1,36 +1,31 @@
 -- `sender::cancel` meets its contract.
-use mathlib.Core.Path.{sym, ◌∙◌}
+use mathlib.Core.Path.{◌∙◌}
 use native.Mathlib.Omega.{arith}
-use borrow.Author.Tests.{eq-eqb, ne_eqb, not-false}
+use borrow.Author.Tests.{eqb-true, not-false}
 use Rattle.framing.specs.Answers.{reply}
-use Rattle.sender.specs.Answers.{unless}
+use Rattle.sender.specs.Answers.{given}
 use Rattle.sender.specs.Calls.{cancel_cases, cancel}
+use Rattle.sender.proofs.Ways.{Passed, cancel-passes, unless-passed, unless-given, some_number}
 use Rattle.sender.proofs.Facts.{in-range, in-transfer}
 use Rattle.sender.proofs.cancel.Goals as goal
 
-pub returns-then-not-sound : goal.returns-then-not-sound
-unfolding cancel cancel_cases unless reply
-returns-then-not-sound c = rw (← c.sound.ensures, c.if-not-sound.true, c.refused.ensures.0, c.refused.ensures.1)
-
-pub returns-then-frame-s : goal.returns-then-frame-s
-unfolding cancel cancel_cases unless reply
-returns-then-frame-s c =
-    rw (← c.sound.ensures, c.if-not-sound.false, ne_eqb _ _ c.if-frame-s.true, c.refused-then-frame-s.ensures.0, c.refused-then-frame-s.ensures.1)
-
-pub returns-then-not-s : goal.returns-then-not-s
-unfolding cancel cancel_cases unless reply
-returns-then-not-s c =
-    rw (← c.sound.ensures, c.if-not-sound.false, eq-eqb _ _ c.if-frame-s.false, c.if-not-s.true, c.refused-then-not-s.ensures.0, c.refused-then-not-s.ensures.1)
-
 pub cancelling-requires : goal.cancelling-requires
+unfolding Passed cancel_cases given
 cancelling-requires c =
     let s = c.args.s in
-    let e = sym c.sound.ensures ∙ c.if-not-sound.false in
-    let f = in-range s e in
-    let g = in-transfer s e (not-false _ c.if-not-s.false) in
+    let p = cancel-passes s c.args.frame.now c.in-Ok.ensures in
+    let ok = not-false _ p.0 in
+    let same = eqb-true _ _ (not-false _ p.1.0) in
+    let f = in-range s ok in
+    let g = in-transfer s ok (not-false _ p.1.1.0) in
     omega arith
 
-pub returns : goal.returns
-unfolding cancel cancel_cases unless reply
-returns c =
-    rw (← c.sound.ensures, c.if-not-sound.false, eq-eqb _ _ c.if-frame-s.false, c.if-not-s.false) c.cancelling.ensures
+pub returns-in-Ok : goal.returns-in-Ok
+unfolding cancel given
+returns-in-Ok c =
+    c.cancelling.ensures ∙ unless-passed c.args.s c.args.frame.now _ _ (cancel-passes c.args.s c.args.frame.now c.in-Ok.ensures)
+
+pub returns-in-Err : goal.returns-in-Err
+unfolding cancel reply given
+returns-in-Err c =
+    unless-given c.args.s c.args.frame.now _ (cancel_cases c.args.s c.args.frame.now) _ (some_number c.in-Err.refusal) c.in-Err.ensures

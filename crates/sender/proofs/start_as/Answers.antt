@@ -3,10 +3,10 @@ use Rattle.sender.specs.Answers.{start_reply}
 use Rattle.sender.specs.Calls.{start}
 use Rattle.sender.proofs.start_as.Goals as goal
 
-pub returns-then-sized : goal.returns-then-sized
+pub returns-then-not-sized : goal.returns-then-not-sized
 unfolding start start_reply
-returns-then-sized c = rw (← c.sized.ensures, c.if-sized.true)
+returns-then-not-sized c = rw (← c.sized.ensures, c.if-not-sized.true)
 
 pub returns : goal.returns
 unfolding start start_reply
-returns c = rw (← c.sized.ensures, c.if-sized.false)
+returns c = rw (← c.sized.ensures, c.if-not-sized.false)

@@ -5,7 +5,7 @@ use Prim.Native.Nat.{◌-◌, ◌≤◌}
 use lib.ListN.{length}
 use Rattle.wire.specs.Layout.{read}
 use Rattle.wire.specs.Frame.{judged, checked}
-use Rattle.wire.proofs.Frames.{scan_at}
+use Rattle.wire.proofs.Scanning.{scan_at}
 use Rattle.wire.proofs.check_frame.Given as goal
 
 abbrev pub invariant-loop-at : goal.invariant-loop-at

@@ -9,12 +9,12 @@ use lib.ListN.{get_or, take, drop}
 use lib.Seq.{get_or-drop, drop-drop}
 use mathlib.Core.Bool.{Bool}
 use Rattle.wire.specs.declared.Version.{Version}
-use Rattle.wire.specs.declared.Hints.{Hints}
+use Rattle.std.proofs.Common.{Option}
 use Rattle.wire.specs.Layout.{kind_of, hinted, hints, left, body, bodied}
 use Rattle.wire.proofs.Contents.{skip, past, fit, unfit, left-fits}
 use Rattle.wire.proofs.read_body.Goals as goal
 
-left-of : (v : Version) (frame : List ℕ) (at size : ℕ) {b : Bool} {h : Hints}
+left-of : (v : Version) (frame : List ℕ) (at size : ℕ) {b : Bool} {h : Option ℕ}
     → h ≡ left (hints b (take (at + 4 + size - (at + 4)) (drop (at + 4) frame))) → b ≡ hinted v (get_or frame (at + 1) 0)
     → h ≡ left (hints (hinted v (get_or frame (at + 1) 0)) (take size (drop (at + 4) frame)))
 left-of v frame at size e f = rw (← f) (rw add-sub_cancel_left at e)
@@ -40,17 +40,17 @@ pub overflow_sub-result : goal.overflow_sub-result
 overflow_sub-result c =
     let a = c.args in
     let walked = left-of a.version a.frame.now a.at a.size c.after_hints-h.ensures c.is_hinted.ensures in
-    let n = left-fits _ a.size _ _ (sym walked ∙ c.in-Left.is) in
+    let n = left-fits _ a.size _ _ (sym walked ∙ c.in-Some.is) in
     omega (arith, n)
 
 pub returns-then-fits : goal.returns-then-fits
 returns-then-fits c =
     let a = c.args in
     let walked = left-of a.version a.frame.now a.at a.size c.after_hints-h.ensures c.is_hinted.ensures in
-    rw (bodied-at a.version a.frame.now a.at a.size, ← c.kind_of-kind.ensures) (fit a.at a.size _ _ c.in-Left.left c.in_default.not-Skipped (sym walked ∙ c.in-Left.is) (sym c.fits.ensures ∙ c.if-fits.true))
+    rw (bodied-at a.version a.frame.now a.at a.size, ← c.kind_of-kind.ensures) (fit a.at a.size _ _ c.in-Some.left c.in_default.not-Skipped (sym walked ∙ c.in-Some.is) (sym c.fits.ensures ∙ c.if-fits.true))
 
 pub returns : goal.returns
 returns c =
     let a = c.args in
     let walked = left-of a.version a.frame.now a.at a.size c.after_hints-h.ensures c.is_hinted.ensures in
-    rw (bodied-at a.version a.frame.now a.at a.size, ← c.kind_of-kind.ensures) (unfit a.at (4 + a.size) _ _ c.in-Left.left c.in_default.not-Skipped (sym walked ∙ c.in-Left.is) (sym c.fits.ensures ∙ c.if-fits.false))
+    rw (bodied-at a.version a.frame.now a.at a.size, ← c.kind_of-kind.ensures) (unfit a.at (4 + a.size) _ _ c.in-Some.left c.in_default.not-Skipped (sym walked ∙ c.in-Some.is) (sym c.fits.ensures ∙ c.if-fits.false))

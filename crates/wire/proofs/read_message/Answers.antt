@@ -1,15 +1,17 @@
 -- `wire::read_message` meets its contract: each return rewrites with the tests that led there.
-use mathlib.Core.Path.{◌≡◌, ◌∙◌}
+use mathlib.Core.Path.{◌≡◌, ◌∙◌, ap}
 use mathlib.Core.Bool.{cond}
 use mathlib.Core.List.{List}
-use Prim.Native.Nat.{ℕ, ◌+◌, ◌-◌}
+use Prim.Native.Nat.{ℕ, ◌+◌, ◌-◌, ◌≤◌}
 use native.Mathlib.Omega.{arith}
-use lib.ListN.{length, drop, length-drop}
+use lib.ListN.{length, take, drop, length-drop}
+use lib.Seq.{take_all}
 use lib.Dec.{ltb}
 use borrow.Author.Tests.{lt-ltb, le-ltb}
 use Rattle.wire.specs.declared.Fault.TheVariants.{PastFrame}
 use Rattle.wire.specs.Message.{bad, answer}
-use Rattle.wire.specs.Layout.{length_field, bodied, headed, read}
+use Rattle.wire.proofs.Runs.{zeros_fit}
+use Rattle.wire.specs.Layout.{zeros, length_field, bodied, headed, read}
 use Rattle.wire.proofs.Heads.{padded, header}
 use Rattle.wire.proofs.read_message.Goals.{After-length_field-size}
 use Rattle.wire.proofs.read_message.Goals as goal
@@ -29,9 +31,24 @@ module _ (c : After-length_field-size) where
   unfolding headed
   whole = header c.args.version c.args.frame.now c.args.at c.requires c.if-frame-at-eq0.false ∙ rw (length-drop, le-ltb rest 4 c.if-frame-at-lt4.false)
 
+-- the part from the position on is what is left of the frame
+run-at : (frame : List ℕ) (at n : ℕ) → n ≡ zeros (take (length frame - at) (drop at frame)) → n ≡ zeros (drop at frame)
+run-at frame at n e = e ∙ ap zeros (take_all (length frame - at) (drop at frame) (simp length-drop (omega arith)))
+
+within : (frame : List ℕ) (at : ℕ) → zeros (drop at frame) ≤ length frame - at
+within frame at = let z = zeros_fit (drop at frame) in let d = length-drop at frame in omega arith
+
 pub returns-then-frame-at-eq0 : goal.returns-then-frame-at-eq0
 returns-then-frame-at-eq0 c =
-    let a = c.args in padded a.version a.frame.now a.at c.requires _ c.if-frame-at-eq0.true c.zeros_end-end.ensures
+    let a = c.args in
+    padded a.version a.frame.now a.at c.requires _ c.if-frame-at-eq0.true (ap (λ (n : ℕ). a.at + n) (run-at a.frame.now a.at _ c.zeros.ensures))
+
+pub overflow_add-end : goal.overflow_add-end
+overflow_add-end c =
+    let a = c.args in
+    let r = run-at a.frame.now a.at _ c.zeros.ensures in
+    let z = within a.frame.now a.at in
+    omega arith
 
 pub returns-then-frame-at-lt4 : goal.returns-then-frame-at-lt4
 unfolding answer headed

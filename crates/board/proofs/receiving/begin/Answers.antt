@@ -1,9 +1,8 @@
--- `board::receiving::begin` meets its contract.
 use Rattle.board.proofs.ReceiverCalls.{receiver-made, receiver-denied}
 use Rattle.board.proofs.receiving.begin.Goals as goal
 
-pub returns-then-s-eq0 : goal.returns-then-s-eq0
-returns-then-s-eq0 c = receiver-made _ _ _ _ c.start_as-s.ensures _ c.if-s-eq0.true c.put_state.ensures
+pub returns-in-Ok : goal.returns-in-Ok
+returns-in-Ok c = receiver-made _ _ _ c.in-Ok.fresh _ c.in-Ok.ensures c.put_state.ensures
 
-pub returns : goal.returns
-returns c = receiver-denied _ _ _ _ c.start_as-s.ensures c.if-s-eq0.false
+pub returns-in-Err : goal.returns-in-Err
+returns-in-Err c = receiver-denied _ _ _ c.in-Err.refusal _ c.in-Err.ensures c.from.ensures

@@ -4,14 +4,14 @@ use Rattle.board.specs.Recordings.{played_as}
 use Rattle.board.proofs.RecordingCalls.{played-by}
 use Rattle.board.proofs.recordings.btpu_play.Goals as goal
 
-pub returns-in-Played : goal.returns-in-Played
+pub returns-in-Ok : goal.returns-in-Ok
 unfolding played_as
-returns-in-Played c =
+returns-in-Ok c =
     let a = c.args in
-    rw c.in-Played.is at (played-by _ _ _ a.recording.now a.limit a.pool.now (results a.output.now a.lengths.now a.places.now a.reasons.now) a.res.now c.play-answer.ensures)
+    played-by _ _ _ a.recording.now a.limit a.pool.now (results a.output.now a.lengths.now a.places.now a.reasons.now) a.res.now c.in-Ok.ensures
 
-pub returns-in-Refused : goal.returns-in-Refused
+pub returns-in-Err : goal.returns-in-Err
 unfolding played_as
-returns-in-Refused c =
+returns-in-Err c =
     let a = c.args in
-    rw c.refusal_number.ensures (rw c.in-Refused.is at (played-by _ _ _ a.recording.now a.limit a.pool.now (results a.output.now a.lengths.now a.places.now a.reasons.now) a.res.now c.play-answer.ensures))
+    rw c.from.ensures (played-by _ _ _ a.recording.now a.limit a.pool.now (results a.output.now a.lengths.now a.places.now a.reasons.now) a.res.now c.in-Err.ensures)

@@ -1,18 +1,20 @@
--- `board::sending::btpu_sender_check` meets its contract.
 use mathlib.Core.Path.{sym, ◌∙◌}
+use Rattle.images.proofs.SenderImages.{read-some, read-none}
 use Rattle.board.specs.Sender.{checked}
 use Rattle.board.proofs.sending.btpu_sender_check.Goals as goal
+
+pub returns-in_default : goal.returns-in_default
+unfolding checked
+returns-in_default c = rw (read-none c.args.state.now c.in_default.ensures)
 
 pub returns-then-sound : goal.returns-then-sound
 unfolding checked
 returns-then-sound c =
-    rw (sym c.is_image.ensures ∙ c.if-is_image.true, ← c.state_of.ensures, sym c.sound.ensures ∙ c.if-sound.true)
+    let p = read-some c.args.state.now c.in-Some.s c.in-Some.ensures in
+    rw (p.0, p.1, sym c.sound.ensures ∙ c.if-sound.true)
 
 pub returns-else-sound : goal.returns-else-sound
 unfolding checked
 returns-else-sound c =
-    rw (sym c.is_image.ensures ∙ c.if-is_image.true, ← c.state_of.ensures, sym c.sound.ensures ∙ c.if-sound.false)
-
-pub returns-else-is_image : goal.returns-else-is_image
-unfolding checked
-returns-else-is_image c = rw (sym c.is_image.ensures ∙ c.if-is_image.false)
+    let p = read-some c.args.state.now c.in-Some.s c.in-Some.ensures in
+    rw (p.0, p.1, sym c.sound.ensures ∙ c.if-sound.false)

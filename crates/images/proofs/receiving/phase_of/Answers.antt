@@ -1,26 +1,27 @@
 -- `images::receiving::phase_of` meets its contract.
-use borrow.Author.Tests.{eq-eqb, ne_eqb}
+use native.Mathlib.Omega.{arith}
+use borrow.Author.Tests.{ne_eqb}
 use Rattle.images.specs.Receiver.{phase_of}
 use Rattle.images.proofs.receiving.phase_of.Goals as goal
 
-pub returns-then-code-eq1 : goal.returns-then-code-eq1
+pub returns-in-1 : goal.returns-in-1
 unfolding phase_of
-returns-then-code-eq1 c = rw (eq-eqb _ _ c.if-code-eq1.true)
+returns-in-1 c = rw c.in-1.is
 
-pub returns-then-code-eq2 : goal.returns-then-code-eq2
+pub returns-in-2 : goal.returns-in-2
 unfolding phase_of
-returns-then-code-eq2 c = rw (ne_eqb _ _ c.if-code-eq1.false, eq-eqb _ _ c.if-code-eq2.true)
+returns-in-2 c = rw c.in-2.is
 
-pub returns-then-code-eq3 : goal.returns-then-code-eq3
+pub returns-in-3 : goal.returns-in-3
 unfolding phase_of
-returns-then-code-eq3 c = rw (ne_eqb _ _ c.if-code-eq1.false, ne_eqb _ _ c.if-code-eq2.false, eq-eqb _ _ c.if-code-eq3.true)
+returns-in-3 c = rw c.in-3.is
 
-pub returns-then-code-eq4 : goal.returns-then-code-eq4
+pub returns-in-4 : goal.returns-in-4
 unfolding phase_of
-returns-then-code-eq4 c =
-    rw (ne_eqb _ _ c.if-code-eq1.false, ne_eqb _ _ c.if-code-eq2.false, ne_eqb _ _ c.if-code-eq3.false, eq-eqb _ _ c.if-code-eq4.true)
+returns-in-4 c = rw c.in-4.is
 
-pub returns : goal.returns
+pub returns-in_default : goal.returns-in_default
 unfolding phase_of
-returns c =
-    rw (ne_eqb _ _ c.if-code-eq1.false, ne_eqb _ _ c.if-code-eq2.false, ne_eqb _ _ c.if-code-eq3.false, ne_eqb _ _ c.if-code-eq4.false)
+returns-in_default c =
+    let n = c.args.code in
+    rw (ne_eqb n 1 (λ e. omega arith), ne_eqb n 2 (λ e. omega arith), ne_eqb n 3 (λ e. omega arith), ne_eqb n 4 (λ e. omega arith))

@@ -10,4 +10,4 @@ shaped c = record { indexes64 = search rules; lengths64 = search rules }
 
 pub returns : goal.returns
 returns c =
-    row_written _ _ _ _ c.args.at c.args.row (shaped (goal.at.returns c).Start) _ _ c.phase_code-code.ensures c.flag-known.ensures c.requires c.put_four.ensures c.copy_into.ensures c.put_pairs.ensures
+    row_written _ _ _ _ c.args.at c.args.row (shaped (goal.at.returns c).Start) _ _ c.phase_code-code.ensures (search rules) c.requires c.put_array.ensures c.copy_into.ensures c.put_pairs.ensures

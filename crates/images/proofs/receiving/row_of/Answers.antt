@@ -1,7 +1,7 @@
 -- `images::receiving::row_of` meets its contract.
+use mathlib.Core.Path.{refl}
 use Rattle.images.proofs.Rows.{row_read}
 use Rattle.images.proofs.receiving.row_of.Goals as goal
 
 pub returns : goal.returns
-returns c =
-    row_read c.args.image.now c.args.at _ _ _ _ c.phase_of.ensures c.octet_size.ensures.0 c.indexes_of.ensures c.lengths_of.ensures
+returns c = row_read c.args.image.now c.args.at _ _ _ _ c.phase_of.ensures refl c.indexes_of.ensures c.lengths_of.ensures

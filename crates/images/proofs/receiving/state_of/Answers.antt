@@ -7,14 +7,15 @@ use Rattle.images.proofs.receiving.state_of.Goals as goal
 
 pub loop-k-init : goal.loop-k-init
 unfolding rows_of
-loop-k-init c =
-    (omega arith, refl, refl, refl, c.number_at.ensures, rw (c.version_of-version.ensures, c.octet.ensures.0))
+loop-k-init c = (refl, refl)
 
 pub loop-k-preserved : goal.loop-k-preserved
 loop-k-preserved c =
-    let l = c.loop-k in (omega arith, rows_turn _ _ 8 l.k _ l.invariant.1 (omega arith) c.row_of.ensures, simp length-set l.invariant.2, l.invariant.3, l.invariant.4, l.invariant.5)
+    let l = c.loop-k in
+    (rows_turn _ _ 8 l.k _ l.invariant.0 (omega arith) c.row_of.ensures, simp length-set l.invariant.1)
 
 pub returns : goal.returns
 unfolding state_of
 returns c =
-    let l = c.loop-k in rw (← l.invariant.3, ← l.invariant.4, ← l.invariant.5, ← rows_end _ _ l.k 16 l.invariant.1 l.invariant.2 (omega arith))
+    let l = c.loop-k in
+    rw (c.number_at.ensures, c.version_of.ensures, ← rows_end _ _ l.k 16 l.invariant.0 l.invariant.1 (omega arith))

@@ -1,12 +1,13 @@
 -- `images::receiving::version_of` meets its contract.
-use borrow.Author.Tests.{eq-eqb, ne_eqb}
+use native.Mathlib.Omega.{arith}
+use borrow.Author.Tests.{ne_eqb}
 use Rattle.images.specs.Receiver.{version_of}
 use Rattle.images.proofs.receiving.version_of.Goals as goal
 
-pub returns-then-code-eq1 : goal.returns-then-code-eq1
+pub returns-in-1 : goal.returns-in-1
 unfolding version_of
-returns-then-code-eq1 c = rw (eq-eqb _ _ c.if-code-eq1.true)
+returns-in-1 c = rw c.in-1.is
 
-pub returns : goal.returns
+pub returns-in_default : goal.returns-in_default
 unfolding version_of
-returns c = rw (ne_eqb _ _ c.if-code-eq1.false)
+returns-in_default c = rw (ne_eqb c.args.code 1 (λ e. omega arith))

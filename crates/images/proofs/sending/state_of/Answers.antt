@@ -6,15 +6,11 @@ pub returns : goal.returns
 unfolding state_of
 returns c =
     rw (
-      c.wide.ensures,
       c.number16_at.ensures,
-      c.wide-2.ensures,
       c.number16_at-2.ensures,
       c.number_at.ensures,
       c.number_at-2.ensures,
-      c.wide-3.ensures,
       c.number16_at-3.ensures,
-      c.wide-4.ensures,
       c.number16_at-4.ensures,
       c.number_at-3.ensures,
       c.version_of.ensures,
