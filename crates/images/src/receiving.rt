@@ -1,6 +1,6 @@
 // The receiver's state as an image.
 ghost use Rattle.std.specs.Prelude.{◌≡◌, ◌+◌, ◌*◌, ◌≤◌, length, take, drop};
-ghost use Rattle.octets.specs.Octets.{pairs, put};
+ghost use Rattle.octets.specs.Octets.{put};
 ghost use Rattle.rows.specs.State.{row_max};
 ghost use Rattle.images.specs.Receiver as Spec;
 ghost use Rattle.images.specs.Receiver.{row_size};
@@ -71,17 +71,6 @@ fn indexes_of(image: &[u8], at: usize) -> [u8; INDEX_COUNT]
     indexes
 }
 
-fn lengths_of(image: &[u8], at: usize) -> [u16; INDEX_COUNT]
-    requires { at + 128 ≤ length image.now }
-    ensures { result ≡ pairs 64 (drop at image.now) }
-{
-    let mut lengths = [0; INDEX_COUNT];
-    for (j, length) in lengths.iter_mut().enumerate() {
-        *length = octets::number16_at(image, at + j * 2);
-    }
-    lengths
-}
-
 // The row whose octets start at `at`.
 fn row_of(image: &[u8], at: usize) -> Row
     requires { at + row_size ≤ length image.now }
@@ -93,7 +82,7 @@ fn row_of(image: &[u8], at: usize) -> Row
         last: image[at + 2],
         held: image[at + 3] as usize,
         indexes: indexes_of(image, at + 4),
-        lengths: lengths_of(image, at + 68),
+        lengths: octets::read_pairs(&image[at + 68..at + ROW_SIZE]),
     }
 }
 

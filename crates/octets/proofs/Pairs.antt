@@ -1,29 +1,25 @@
 -- Numbers of 16 bits one behind another: `pairs` and `spread` of specs/Octets.antt.
---     pairs-turn, pairs_end, spread-turn, spread_end   loops that read and write them
+--     spread-turn, spread_end   a loop that writes them
+--     pairs-put, pair_at   a loop that reads them from parts of two octets
+--     pairs-part, pairs_whole   numbers of a part
 --     length_pairs, length-spread   how many there are
 --     pairs-back, spread-back   numbers that were written read back, octets that were read are written again
-use mathlib.Core.Path.{◌≡◌, refl, ap}
+use mathlib.Core.Path.{◌≡◌, refl, sym, ap, ◌∙◌}
 use mathlib.Core.List.{List, [], ◌∷◌, ◌++◌}
-use Prim.Native.Nat.{ℕ, zero, suc, ◌+◌, ◌*◌, ◌≤◌, ◌<◌, ◌^◌}
+use Prim.Native.Nat.{ℕ, zero, suc, ◌+◌, ◌-◌, ◌*◌, ◌/◌, ◌≤◌, ◌<◌, ◌^◌}
 use native.Mathlib.Numerals.{add-one}
 use native.Mathlib.Omega.{arith}
-use lib.ListN.{length, get_or, take, drop, set}
+use lib.ListN.{length, get_or, take, drop, set, replicate, length-drop, length-replicate}
+use lib.Seq.{drop-drop, length-take-le}
+use Rattle.std.specs.Simd.{first_chunks}
 use Rattle.octets.specs.Octets.{Octets, number16, be16, pairs, spread, put}
 use Rattle.octets.proofs.Numbers.{length-be16, number16-be16, be16-back}
-use Rattle.octets.proofs.Series.{read-last, read-turn, read-end, write-turn, write-end, length-items}
+use Rattle.octets.proofs.Put.{put_next, put_whole}
+use Rattle.octets.proofs.Series.{read-last, write-turn, write-end, length-items}
 
 pub pairs-last : (n : ℕ) (xs : List ℕ) → pairs (n + 1) xs ≡ pairs n xs ++ (number16 (drop (n * 2) xs) ∷ [])
 unfolding pairs
 pairs-last n xs = rw (add-one n) (read-last 2 number16 pairs (λ xs. refl) (λ n xs. refl) n xs)
-
-pub pairs-turn : (items : List ℕ) (xs : List ℕ) (at k : ℕ) (v : ℕ) → take k items ≡ pairs k (drop at xs) → k < length items → v ≡ number16 (drop (at + k * 2) xs)
-    → take (k + 1) (set items k v) ≡ pairs (k + 1) (drop at xs)
-unfolding pairs
-pairs-turn = read-turn 2 number16 pairs (λ xs. refl) (λ n xs. refl)
-
-pub pairs_end : (items : List ℕ) (xs : List ℕ) (k n : ℕ) → take k items ≡ pairs k xs → length items ≡ n → n ≡ k → items ≡ pairs n xs
-unfolding pairs
-pairs_end = read-end 2 number16 pairs (λ xs. refl) (λ n xs. refl)
 
 pub spread-turn : (d d' d'' items : List ℕ) (at k : ℕ) → d' ≡ put d at (spread (take k items)) → length (spread (take k items)) ≡ k * 2
     → k < length items → at + k * 2 + 2 ≤ length d → d'' ≡ put d' (at + k * 2) (be16 (get_or items k 0))
@@ -60,3 +56,39 @@ spread-back (suc n) (a ∷ []) low h = absurd (omega arith)
 spread-back (suc n) (a ∷ b ∷ xs) low h =
     let e : suc n * 2 ≡ suc (suc (n * 2)) = omega arith in
     rw (be16-back a b xs (low 0) (low 1), spread-back n xs (λ k. low (suc (suc k))) (omega arith), e)
+
+pub pairs-put : (d xs : List ℕ) (k v : ℕ) → k < length d → v ≡ number16 (drop (k * 2) xs) → set (put d 0 (pairs k xs)) k v ≡ put d 0 (pairs (k + 1) xs)
+pairs-put d xs k v h e =
+    let p = put_next d (pairs k xs) v (rw length_pairs h) in
+    ap (λ (j : ℕ). set (put d 0 (pairs k xs)) j v) (sym (length_pairs k xs)) ∙ p ∙ rw (e, pairs-last k xs)
+
+-- number k of the parts of two octets
+pub pair_at : (k n : ℕ) (xs : List ℕ) → k < n → get_or (get_or (first_chunks 2 n xs) k []) 0 0 * 256 + get_or (get_or (first_chunks 2 n xs) k []) 1 0 ≡ number16 (drop (k * 2) xs)
+unfolding number16
+pair_at k zero xs h = absurd (omega arith)
+pair_at zero (suc n) [] h = refl
+pair_at zero (suc n) (a ∷ []) h = refl
+pair_at zero (suc n) (a ∷ b ∷ xs) h = refl
+pair_at (suc k) (suc n) xs h =
+    let e : 2 + k * 2 ≡ suc k * 2 = omega arith in
+    pair_at k n (drop 2 xs) (omega arith) ∙ rw (drop-drop (k * 2) 2 xs, e)
+
+pairs-take : (n : ℕ) (xs : List ℕ) → pairs n (take (n * 2) xs) ≡ pairs n xs
+unfolding pairs number16
+pairs-take zero xs = refl
+pairs-take (suc n) [] = let e : suc n * 2 ≡ suc (suc (n * 2)) = omega arith in rw e refl
+pairs-take (suc n) (a ∷ []) = let e : suc n * 2 ≡ suc (suc (n * 2)) = omega arith in rw e refl
+pairs-take (suc n) (a ∷ b ∷ xs) = let e : suc n * 2 ≡ suc (suc (n * 2)) = omega arith in rw (e, pairs-take n xs)
+
+pub pairs-part : (n at end : ℕ) (xs : List ℕ) → end ≡ at + n * 2 → end ≤ length xs
+    → pairs (length (take (end - at) (drop at xs)) / 2) (take (end - at) (drop at xs)) ≡ pairs n (drop at xs)
+pairs-part n at end xs e h =
+    let size : end - at ≡ n * 2 = omega arith in
+    let half : n * 2 / 2 ≡ n = omega arith in
+    let all : length (take (n * 2) (drop at xs)) ≡ n * 2 = length-take-le (n * 2) (drop at xs) (rw length-drop (omega arith)) in
+    rw (size, all, half) (pairs-take n (drop at xs))
+
+-- the same, of an array that they fill
+pub pairs_whole : (n at end : ℕ) (xs : List ℕ) → end ≡ at + n * 2 → end ≤ length xs
+    → put (replicate n 0) 0 (pairs (length (take (end - at) (drop at xs)) / 2) (take (end - at) (drop at xs))) ≡ pairs n (drop at xs)
+pairs_whole n at end xs e h = rw (pairs-part n at end xs e h) (put_whole (replicate n 0) (pairs n (drop at xs)) (rw (length_pairs, length-replicate)))

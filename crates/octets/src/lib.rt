@@ -1,8 +1,8 @@
 // Runs of octets: numbers read and written at a position, a run written at an offset, and zeros up to the end.
 #![tactic(auto)]
 
-ghost use Rattle.std.specs.Prelude.{◌≡◌, ◌+◌, ◌-◌, ◌*◌, ◌≤◌, length, drop, replicate};
-ghost use Rattle.octets.specs.Octets.{number, number16, be32, be16, spread, sum_of, put};
+ghost use Rattle.std.specs.Prelude.{◌≡◌, ◌+◌, ◌-◌, ◌*◌, ◌/◌, ◌≤◌, length, drop, replicate};
+ghost use Rattle.octets.specs.Octets.{number, number16, be32, be16, pairs, spread, sum_of, put};
 
 // The number of 16 bits at a position.
 pub fn number16_at(s: &[u8], at: usize) -> u16
@@ -18,6 +18,19 @@ pub fn number_at(s: &[u8], at: usize) -> u32
     ensures { result ≡ number (drop at s.now) }
 {
     u32::from_be_bytes([s[at], s[at + 1], s[at + 2], s[at + 3]])
+}
+
+// The numbers of 16 bits that the octets hold, one behind another, and zeros behind them.
+pub fn read_pairs<const N: usize>(octets: &[u8]) -> [u16; N]
+    requires { length octets.now ≤ 2 * N }
+    ensures { result ≡ put (replicate N 0) 0 (pairs (length octets.now / 2) octets.now) }
+{
+    let (pairs, _) = octets.as_chunks::<2>();
+    let mut numbers = [0; N];
+    for (j, pair) in pairs.iter().enumerate() {
+        numbers[j] = u16::from_be_bytes(*pair);
+    }
+    numbers
 }
 
 // All of src, from `at` on.

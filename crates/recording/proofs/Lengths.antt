@@ -1,13 +1,10 @@
 -- Loops over the lengths of frames.
-use mathlib.Core.Path.{◌≡◌, refl, sym, ◌∙◌}
+use mathlib.Core.Path.{◌≡◌, refl}
 use Rattle.std.specs.List.{list_all}
 use mathlib.Core.Bool.{◌&&◌}
-use mathlib.Core.List.{List, [], ◌∷◌, ◌++◌}
-use Prim.Native.Nat.{ℕ, ◌≤◌}
-use native.Mathlib.Nat.{zero-add}
-use native.Mathlib.Omega.{arith}
-use lib.ListN.{length, take, drop}
-use lib.Seq.{take_all}
+use mathlib.Core.List.{List, [], ◌∷◌}
+use Prim.Native.Nat.{ℕ}
+use lib.ListN.{take}
 use lib.Dec.{leb}
 use Rattle.octets.specs.Octets.{pairs, put}
 use Rattle.octets.proofs.Put.{read_back}
@@ -19,14 +16,6 @@ pub sized-is : (ns : List ℕ) → sized ns ≡ list_all (λ n. leb 1 n && leb n
 unfolding sized
 sized-is [] = refl
 sized-is (n ∷ ns) = rw (sized-is ns)
-
--- the end of the loop that reads the lengths into the front of d
-pub lengths_read : (d xs items : List ℕ) (j n : ℕ) → take j items ≡ pairs j xs → length items ≤ j → length items ≡ n → j ≤ n → items ++ drop n d ≡ put d 0 (pairs n xs)
-unfolding put
-lengths_read d xs items j n e h l le =
-    let jn : j ≡ n = omega arith in
-    let all : items ≡ pairs n xs = sym (take_all j items h) ∙ e ∙ rw jn in
-    rw (all, length_pairs n xs, zero-add n) refl
 
 -- the lengths that were read
 pub lengths_front : (d₀ d xs : List ℕ) (n : ℕ) → d ≡ put d₀ 0 (pairs n xs) → take n d ≡ pairs n xs

@@ -2,7 +2,7 @@
 #![tactic(auto)]
 
 ghost use Rattle.std.specs.Prelude.{◌≡◌, ◌+◌, ◌*◌, ◌^◌, ◌<◌, ◌≤◌, length, drop};
-ghost use Rattle.octets.specs.Octets.{pairs, put};
+ghost use Rattle.octets.specs.Octets.{put};
 ghost use Rattle.recording.specs.Recording as Spec;
 
 use wire::{FRAME_MAX, Frames};
@@ -70,18 +70,6 @@ fn weigh(lengths: &[u16], count: usize) -> Result<(), Refusal>
     Ok(())
 }
 
-// The first n lengths, and zeros behind them.
-fn lengths_of(recording: &[u8], n: usize) -> [u16; FRAMES_MAX]
-    requires { (n ≤ Spec.frames_max) × (4 + n * 2 ≤ length recording.now) }
-    ensures { result ≡ put Spec.blank 0 (pairs n (drop 4 recording.now)) }
-{
-    let mut lengths = [0u16; FRAMES_MAX];
-    for (j, length) in lengths[..n].iter_mut().enumerate() {
-        *length = octets::number16_at(recording, 4 + j * 2);
-    }
-    lengths
-}
-
 // A count at a position, and refusals 16 and 17.
 #[tactic(auto, unfolding(crate::specs::Recording::count_at))]
 fn count_at(recording: &[u8], at: usize, limit: usize) -> Result<usize, Refusal>
@@ -117,7 +105,7 @@ pub fn open(recording: &[u8]) -> Result<Opened, Refusal>
     if size < end {
         return Err(Refusal::CutShort);
     }
-    let lengths = lengths_of(recording, frames);
+    let lengths = octets::read_pairs::<FRAMES_MAX>(&recording[4..start - 4]);
     weigh(&lengths[..frames], octets)?;
     if end < size {
         return Err(Refusal::LeftOver);

@@ -1,16 +1,17 @@
 -- `recording::open` meets its contract.
 use Rattle.std.proofs.lemmas.Result.{err_from_is_err_and}
-use Rattle.octets.specs.Octets.{pairs}
+use Rattle.octets.specs.Octets.{pairs, put}
 use Rattle.octets.proofs.Put.{put_reaches}
 use Rattle.recording.specs.Recording.{frames_max, octets_max, blank, opened}
 use Rattle.recording.proofs.Lengths.{lengths_front}
 use Rattle.recording.proofs.Reading.{Count, Counted, count-ok, no_frames, no_octets, cut_short, counts, unevenly, left, opens, opened-parts}
-use Rattle.octets.proofs.Pairs.{length_pairs}
+use Rattle.octets.proofs.Pairs.{length_pairs, pairs-part}
 use mathlib.Core.Path.{◌≡◌, refl, sym, ◌∙◌}
 use Prim.Native.Nat.{◌+◌, ◌-◌, ◌*◌}
 use native.Mathlib.Omega.{arith}
-use lib.ListN.{drop}
-use Rattle.recording.proofs.open.Goals.{In_ok-frames, In_ok-octets, Else-size-end}
+use borrow.Author.Rules.{rules}
+use lib.ListN.{drop, length-take, length-drop}
+use Rattle.recording.proofs.open.Goals.{After-read_pairs-lengths, In_ok-frames, In_ok-octets, Else-size-end}
 use Rattle.recording.proofs.open.Goals as goal
 
 frames : (c : goal.In_ok-frames) → Count c.args.recording.now 0 frames_max c.in_ok-frames.frames
@@ -20,10 +21,6 @@ octets : (c : goal.In_ok-octets) → Count c.args.recording.now (4 + c.in_ok-fra
 octets c =
     let count : c.octets_start-start.result - 4 ≡ 4 + c.in_ok-frames.frames * 2 = omega arith in
     count-ok c.args.recording.now _ octets_max _ (sym (rw count at c.count_at-2.ensures) ∙ c.in_ok-octets.was)
-
--- both counts are within their limits, and all that they promise is there
-counted : (c : goal.Else-size-end) → Counted c.args.recording.now c.in_ok-frames.frames c.in_ok-octets.octets
-counted c = counts c.args.recording.now _ (frames (goal.at.lengths_of-lengths-requires c).In_ok-frames) _ (octets (goal.at.lengths_of-lengths-requires c).In_ok-octets) (omega arith)
 
 pub returns-in_err-frames : goal.returns-in_err-frames
 unfolding opened
@@ -57,18 +54,30 @@ returns-then-size-end c =
     let O = octets (goal.at.returns-then-size-end c).In_ok-octets in
     rw (cut_short c.args.recording.now _ F _ O (omega arith)) refl
 
-pub lengths_of-lengths-requires : goal.lengths_of-lengths-requires
-lengths_of-lengths-requires c =
-    let F = frames (goal.at.lengths_of-lengths-requires c).In_ok-frames in
-    (F.few, omega arith)
+pub slice_bounds-read_pairs-start : goal.slice_bounds-read_pairs-start
+slice_bounds-read_pairs-start c = search rules
+
+-- both counts are within their limits, and all that they promise is there
+counted : (c : goal.Else-size-end) → Counted c.args.recording.now c.in_ok-frames.frames c.in_ok-octets.octets
+counted c = counts c.args.recording.now _ (frames (goal.at.slice_bounds-read_pairs-start c).In_ok-frames) _ (octets (goal.at.slice_bounds-read_pairs-start c).In_ok-octets) (omega arith)
+
+pub read_pairs-lengths-requires : goal.read_pairs-lengths-requires
+read_pairs-lengths-requires c =
+    let F = frames (goal.at.read_pairs-lengths-requires c).In_ok-frames in
+    rw (length-take, length-drop) (omega (arith, F.few))
+
+-- the lengths, with zeros behind them
+table : (c : goal.After-read_pairs-lengths) → c.read_pairs-lengths.result ≡ put blank 0 (pairs c.in_ok-frames.frames (drop 4 c.args.recording.now))
+unfolding blank
+table c = c.read_pairs-lengths.ensures ∙ rw (pairs-part c.in_ok-frames.frames 4 (c.octets_start-start.result - 4) c.args.recording.now (omega arith) (omega arith))
 
 pub slice_bounds-lengths-end : goal.slice_bounds-lengths-end
 slice_bounds-lengths-end c =
     let lengths = pairs c.in_ok-frames.frames (drop 4 c.args.recording.now) in
-    rw c.lengths_of-lengths.ensures (omega (arith, put_reaches blank 0 lengths (omega arith), length_pairs c.in_ok-frames.frames (drop 4 c.args.recording.now)))
+    rw (table c) (omega (arith, put_reaches blank 0 lengths (omega arith), length_pairs c.in_ok-frames.frames (drop 4 c.args.recording.now)))
 
 pub slice_bounds-weigh-end : goal.slice_bounds-weigh-end
-slice_bounds-weigh-end c = rw (lengths_front _ _ _ _ c.lengths_of-lengths.ensures, length_pairs)
+slice_bounds-weigh-end c = rw (lengths_front _ _ _ _ (table (goal.at.slice_bounds-weigh-end c).After-read_pairs-lengths), length_pairs)
 
 pub returns-in_err-weigh : goal.returns-in_err-weigh
 unfolding opened
@@ -76,7 +85,7 @@ returns-in_err-weigh c =
     let xs = c.args.recording.now in
     let n = c.in_ok-frames.frames in
     let K = counted (goal.at.returns-in_err-weigh c).Else-size-end in
-    let front = lengths_front _ _ (drop 4 xs) n c.lengths_of-lengths.ensures in
+    let front = lengths_front _ _ (drop 4 xs) n (table (goal.at.returns-in_err-weigh c).After-read_pairs-lengths) in
     let p = err_from_is_err_and c.from_residual-in_err-weigh.result c.from_residual-in_err-weigh.ensures.1 in
     rw (p.1, p.2, unevenly xs n _ K _ (rw front at (sym c.weigh.ensures ∙ c.in_err-weigh.was))) refl
 
@@ -86,7 +95,7 @@ returns-then-end-size c =
     let xs = c.args.recording.now in
     let n = c.in_ok-frames.frames in
     let K = counted (goal.at.returns-then-end-size c).Else-size-end in
-    let front = lengths_front _ _ (drop 4 xs) n c.lengths_of-lengths.ensures in
+    let front = lengths_front _ _ (drop 4 xs) n (table (goal.at.returns-then-end-size c).After-read_pairs-lengths) in
     rw (left xs n _ K (rw front at (sym c.weigh.ensures ∙ c.in_ok-weigh.was)) (omega arith)) refl
 
 pub returns : goal.returns
@@ -95,5 +104,5 @@ returns c =
     let n = c.in_ok-frames.frames in
     let m = c.in_ok-octets.octets in
     let K = counted (goal.at.returns c).Else-size-end in
-    let front = lengths_front _ _ (drop 4 xs) n c.lengths_of-lengths.ensures in
-    rw (opens xs n m K (rw front at (sym c.weigh.ensures ∙ c.in_ok-weigh.was)) (omega arith), opened-parts xs n m K, ← c.lengths_of-lengths.ensures)
+    let front = lengths_front _ _ (drop 4 xs) n (table (goal.at.returns c).After-read_pairs-lengths) in
+    rw (opens xs n m K (rw front at (sym c.weigh.ensures ∙ c.in_ok-weigh.was)) (omega arith), opened-parts xs n m K, ← (table (goal.at.returns c).After-read_pairs-lengths))
