@@ -1,48 +1,55 @@
 -- The receiver's state as octets.
-use mathlib.Core.Bool.{Bool, ◌&&◌, and-true, and_assoc}
 use mathlib.Core.List.{List, [], ◌∷◌, ◌++◌}
-use mathlib.Core.Path.{◌≡◌, refl, sym, ◌∙◌}
-use Prim.Native.Nat.{ℕ, zero, suc, ◌+◌, ◌*◌, ◌%◌, ◌≤◌, ◌<◌}
-use native.Mathlib.Nat.{add-zero}
-use native.Mathlib.Numerals.{add-one}
+use mathlib.Core.Path.{◌≡◌, refl, ◌∙◌}
+use Prim.Native.Nat.{ℕ, zero, suc, ◌+◌, ◌*◌, ◌/◌, ◌%◌, ◌≤◌, ◌<◌}
 use native.Mathlib.Omega.{arith}
-use lib.Dec.{leb, eqb}
-use lib.ListN.{length, get_or, take, drop, set, length-append}
-use lib.Seq.{drop-drop, get_or-drop}
+use lib.ListN.{length, get_or, take, drop, set, length-append, length-drop}
+use lib.Seq.{drop-drop, take_all}
+use Rattle.std.specs.Simd.{first_chunks}
+use Rattle.std.specs.List.{list_all}
+use Rattle.std.proofs.lemmas.List.{get_or-take, drop-take, take-take}
 use Rattle.octets.specs.Octets.{be32, pairs, spread, put}
 use Rattle.octets.proofs.Put.{put_whole, put-put}
-use Rattle.octets.proofs.Series.{read-turn, read-end, write-turn}
-use Rattle.octets.proofs.Pairs.{length-spread}
-use Rattle.row.specs.declared.Phase.{Phase}
+use Rattle.octets.proofs.Series.{chunk_at, read-turn, read-end, write-turn}
+use Rattle.octets.proofs.Pairs.{length-spread, pairs-take}
 use Rattle.row.specs.declared.Row.{Row}
 use Rattle.row.proofs.Shaped.{Shaped}
 use Rattle.rows.specs.declared.State.{State}
 use Rattle.rows.specs.State.{window_of, row_max}
-use Rattle.images.specs.Receiver.{image_size, row_size, phase_of, is_row, row_of, are_rows, rows_of, phase_code, version_code, flag, row_image, rows_image, image_of}
+use Rattle.images.specs.Receiver.{image_size, row_size, is_row, row_of, are_rows, rows_of, phase_code, version_code, flag, row_image, rows_image, image_of}
 
 -- ---- the tests
 
-are_rows_last : (k : ℕ) (xs : List ℕ) → are_rows (suc k) xs ≡ (are_rows k xs && is_row (drop (k * row_size) xs))
-unfolding are_rows
-are_rows_last zero xs = and-true (is_row xs)
-are_rows_last (suc k) xs =
-    let e : row_size + k * row_size ≡ suc k * row_size = omega arith in
-    rw (are_rows_last k (drop row_size xs), drop-drop (k * row_size) row_size xs, e) (sym (and_assoc (is_row xs) (are_rows k (drop row_size xs)) (is_row (drop (suc k * row_size) xs))))
+-- the parts of the octets behind the first eight
+pub parts_of : (n : ℕ) (xs : List ℕ) → length xs ≡ 8 + n * row_size
+    → first_chunks row_size (length (take (n * row_size) (drop 8 xs)) / row_size) (take (n * row_size) (drop 8 xs)) ≡ first_chunks row_size n (drop 8 xs)
+parts_of n xs e =
+    let full : length (drop 8 xs) ≡ n * row_size = rw length-drop (omega arith) in
+    let whole : take (n * row_size) (drop 8 xs) ≡ drop 8 xs = take_all (n * row_size) (drop 8 xs) (omega arith) in
+    let count : n * row_size / row_size ≡ n = omega arith in
+    rw (whole, full, count)
 
-pub are_rows_turn : (good : Bool) (k : ℕ) (xs : List ℕ) → good ≡ are_rows k (drop 8 xs)
-    → (good && (leb (get_or xs (8 + k * row_size) 0) 4 && leb (get_or xs (8 + k * row_size + 1) 0) 1)) ≡ are_rows (k + 1) (drop 8 xs)
+is_row-take : (xs : List ℕ) → is_row (take row_size xs) ≡ is_row xs
 unfolding is_row
-are_rows_turn good k xs e =
-    rw (add-one k, are_rows_last k (drop 8 xs), drop-drop (k * row_size) 8 xs, get_or-drop (8 + k * row_size) xs 0 0, get_or-drop (8 + k * row_size) xs 1 0, add-zero (8 + k * row_size), e)
+is_row-take xs = rw (get_or-take row_size xs 0 0 (omega arith), get_or-take row_size xs 1 0 (omega arith))
+
+pub rows_all : (n : ℕ) (xs : List ℕ) → list_all is_row (first_chunks row_size n xs) ≡ are_rows n xs
+unfolding are_rows
+rows_all zero xs = refl
+rows_all (suc n) xs = rw (is_row-take xs, rows_all n (drop row_size xs))
 
 -- ---- from octets
 
--- a row from its parts
-pub row_read : (xs : List ℕ) (at : ℕ) (p : Phase) (h : ℕ) (is ls : List ℕ) → p ≡ phase_of (get_or xs at 0) → h ≡ get_or xs (at + 3) 0
-    → is ≡ take 64 (drop (at + 4) xs) → ls ≡ pairs 64 (drop (at + 68) xs)
-    → ◌≡◌ {A = Row} (record { phase = p; known = eqb (get_or xs (at + 1) 0) 1; last = get_or xs (at + 2) 0; held = h; indexes = is; lengths = ls }) (row_of (drop at xs))
+row_of-take : (xs : List ℕ) → row_of (take row_size xs) ≡ row_of xs
 unfolding row_of
-row_read xs at p h is ls ep eh ei el = rw (ep, eh, ei, el) (simp (get_or-drop, add-zero, drop-drop))
+row_of-take xs =
+    let i : take 64 (drop 4 (take row_size xs)) ≡ take 64 (drop 4 xs) = rw (drop-take 4 192 xs) (take-take 64 192 (drop 4 xs) (omega arith)) in
+    let l : pairs 64 (drop 68 (take row_size xs)) ≡ pairs 64 (drop 68 xs) = rw (drop-take 68 128 xs) (pairs-take 64 (drop 68 xs)) in
+    rw (i, l, get_or-take row_size xs 0 0 (omega arith), get_or-take row_size xs 1 0 (omega arith), get_or-take row_size xs 2 0 (omega arith), get_or-take row_size xs 3 0 (omega arith))
+
+-- the row of a part of the rows' octets
+pub row_at : (at k n : ℕ) (xs : List ℕ) → k < n → row_of (get_or (first_chunks row_size n (drop at xs)) k []) ≡ row_of (drop (at + k * row_size) xs)
+row_at at k n xs h = rw (chunk_at row_size k n (drop at xs) h) (row_of-take (drop (k * row_size) (drop at xs)) ∙ rw (drop-drop (k * row_size) at xs))
 
 pub rows_turn : (items : List Row) (xs : List ℕ) (at k : ℕ) (v : Row) → take k items ≡ rows_of k (drop at xs) → k < length items → v ≡ row_of (drop (at + k * row_size) xs)
     → take (k + 1) (set items k v) ≡ rows_of (k + 1) (drop at xs)

@@ -1,5 +1,5 @@
 // The receiver's state as an image.
-ghost use Rattle.std.specs.Prelude.{◌≡◌, ◌+◌, ◌*◌, ◌≤◌, length, take, drop};
+ghost use Rattle.std.specs.Prelude.{◌≡◌, ◌+◌, ◌*◌, ◌≤◌, length, drop};
 ghost use Rattle.octets.specs.Octets.{put};
 ghost use Rattle.rows.specs.State.{row_max};
 ghost use Rattle.images.specs.Receiver as Spec;
@@ -62,45 +62,39 @@ pub fn version_code(version: Version) -> u8
     }
 }
 
-fn indexes_of(image: &[u8], at: usize) -> [u8; INDEX_COUNT]
-    requires { at + 64 ≤ length image.now }
-    ensures { result ≡ take 64 (drop at image.now) }
+fn indexes_of(octets: &[u8]) -> [u8; INDEX_COUNT]
+    requires { length octets.now ≡ 64 }
+    ensures { result ≡ octets.now }
 {
     let mut indexes = [0; INDEX_COUNT];
-    indexes.copy_from_slice(&image[at..at + INDEX_COUNT]);
+    indexes.copy_from_slice(octets);
     indexes
 }
 
-// The row whose octets start at `at`.
-fn row_of(image: &[u8], at: usize) -> Row
-    requires { at + row_size ≤ length image.now }
-    ensures { result ≡ Spec.row_of (drop at image.now) }
+fn is_row(octets: &[u8; ROW_SIZE]) -> bool
+    ensures { result ≡ Spec.is_row octets.now }
 {
-    Row {
-        phase: phase_of(image[at]),
-        known: image[at + 1] == 1,
-        last: image[at + 2],
-        held: image[at + 3] as usize,
-        indexes: indexes_of(image, at + 4),
-        lengths: octets::read_pairs(&image[at + 68..at + ROW_SIZE]),
-    }
+    octets[0] <= 4 && octets[1] <= 1
 }
 
-fn are_rows(image: &[u8; IMAGE_SIZE]) -> bool
-    ensures { result ≡ Spec.are_rows row_max (drop 8 image.now) }
+fn row_of(octets: &[u8; ROW_SIZE]) -> Row
+    ensures { result ≡ Spec.row_of octets.now }
 {
-    let mut good = true;
-    for k in 0..ROW_COUNT {
-        let at = ROWS + k * ROW_SIZE;
-        good &= image[at] <= 4 && image[at + 1] <= 1;
+    Row {
+        phase: phase_of(octets[0]),
+        known: octets[1] == 1,
+        last: octets[2],
+        held: octets[3] as usize,
+        indexes: indexes_of(&octets[4..68]),
+        lengths: octets::read_pairs(&octets[68..]),
     }
-    good
 }
 
 pub fn is_image(image: &[u8; IMAGE_SIZE]) -> bool
     ensures { result ≡ Spec.is_image image.now }
 {
-    image[0] <= 1 && image[2] <= 1 && image[3] == 0 && are_rows(image)
+    let (parts, _) = image[ROWS..].as_chunks::<ROW_SIZE>();
+    image[0] <= 1 && image[2] <= 1 && image[3] == 0 && parts.iter().all(is_row)
 }
 
 // The rows are stored where they stay: an array of them that goes by value is copied.
@@ -116,8 +110,9 @@ pub fn state_of(image: &[u8; IMAGE_SIZE]) -> State
             window: image[1] as u32,
         },
     };
+    let (parts, _) = image[ROWS..].as_chunks::<ROW_SIZE>();
     for (k, row) in state.rows.iter_mut().enumerate() {
-        *row = row_of(image, ROWS + k * ROW_SIZE);
+        *row = row_of(&parts[k]);
     }
     state
 }

@@ -34,11 +34,7 @@ fn state_of(image: &[u8; IMAGE_SIZE]) -> State
 pub fn read(image: &[u8; IMAGE_SIZE]) -> Option<State>
     ensures { result ≡ Spec.read image.now }
 {
-    if is_image(image) {
-        Some(state_of(image))
-    } else {
-        None
-    }
+    is_image(image).then(|| state_of(image))
 }
 
 // The last 16 bits of a number, from `at` on.

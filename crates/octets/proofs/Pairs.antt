@@ -1,7 +1,7 @@
 -- Numbers of 16 bits one behind another: `pairs` and `spread` of specs/Octets.antt.
 --     spread-turn, spread_end   a loop that writes them
 --     pairs-put, pair_at   a loop that reads them from parts of two octets
---     pairs-part, pairs_whole   numbers of a part
+--     pairs-take, pairs-part   numbers of a part; pairs_full: numbers that fill an array
 --     length_pairs, length-spread   how many there are
 --     pairs-back, spread-back   numbers that were written read back, octets that were read are written again
 use mathlib.Core.Path.{◌≡◌, refl, sym, ap, ◌∙◌}
@@ -10,12 +10,12 @@ use Prim.Native.Nat.{ℕ, zero, suc, ◌+◌, ◌-◌, ◌*◌, ◌/◌, ◌≤�
 use native.Mathlib.Numerals.{add-one}
 use native.Mathlib.Omega.{arith}
 use lib.ListN.{length, get_or, take, drop, set, replicate, length-drop, length-replicate}
-use lib.Seq.{drop-drop, length-take-le}
+use lib.Seq.{length-take-le}
 use Rattle.std.specs.Simd.{first_chunks}
 use Rattle.octets.specs.Octets.{Octets, number16, be16, pairs, spread, put}
 use Rattle.octets.proofs.Numbers.{length-be16, number16-be16, be16-back}
 use Rattle.octets.proofs.Put.{put_next, put_whole}
-use Rattle.octets.proofs.Series.{read-last, write-turn, write-end, length-items}
+use Rattle.octets.proofs.Series.{chunk_at, read-last, write-turn, write-end, length-items}
 
 pub pairs-last : (n : ℕ) (xs : List ℕ) → pairs (n + 1) xs ≡ pairs n xs ++ (number16 (drop (n * 2) xs) ∷ [])
 unfolding pairs
@@ -62,18 +62,17 @@ pairs-put d xs k v h e =
     let p = put_next d (pairs k xs) v (rw length_pairs h) in
     ap (λ (j : ℕ). set (put d 0 (pairs k xs)) j v) (sym (length_pairs k xs)) ∙ p ∙ rw (e, pairs-last k xs)
 
--- number k of the parts of two octets
-pub pair_at : (k n : ℕ) (xs : List ℕ) → k < n → get_or (get_or (first_chunks 2 n xs) k []) 0 0 * 256 + get_or (get_or (first_chunks 2 n xs) k []) 1 0 ≡ number16 (drop (k * 2) xs)
+-- the number of a part of two octets
+number16-take : (xs : List ℕ) → number16 (take 2 xs) ≡ number16 xs
 unfolding number16
-pair_at k zero xs h = absurd (omega arith)
-pair_at zero (suc n) [] h = refl
-pair_at zero (suc n) (a ∷ []) h = refl
-pair_at zero (suc n) (a ∷ b ∷ xs) h = refl
-pair_at (suc k) (suc n) xs h =
-    let e : 2 + k * 2 ≡ suc k * 2 = omega arith in
-    pair_at k n (drop 2 xs) (omega arith) ∙ rw (drop-drop (k * 2) 2 xs, e)
+number16-take [] = refl
+number16-take (a ∷ []) = refl
+number16-take (a ∷ b ∷ xs) = refl
 
-pairs-take : (n : ℕ) (xs : List ℕ) → pairs n (take (n * 2) xs) ≡ pairs n xs
+pub pair_at : (k n : ℕ) (xs : List ℕ) → k < n → number16 (get_or (first_chunks 2 n xs) k []) ≡ number16 (drop (k * 2) xs)
+pair_at k n xs h = rw (chunk_at 2 k n xs h) (number16-take (drop (k * 2) xs))
+
+pub pairs-take : (n : ℕ) (xs : List ℕ) → pairs n (take (n * 2) xs) ≡ pairs n xs
 unfolding pairs number16
 pairs-take zero xs = refl
 pairs-take (suc n) [] = let e : suc n * 2 ≡ suc (suc (n * 2)) = omega arith in rw e refl
@@ -88,7 +87,8 @@ pairs-part n at end xs e h =
     let all : length (take (n * 2) (drop at xs)) ≡ n * 2 = length-take-le (n * 2) (drop at xs) (rw length-drop (omega arith)) in
     rw (size, all, half) (pairs-take n (drop at xs))
 
--- the same, of an array that they fill
-pub pairs_whole : (n at end : ℕ) (xs : List ℕ) → end ≡ at + n * 2 → end ≤ length xs
-    → put (replicate n 0) 0 (pairs (length (take (end - at) (drop at xs)) / 2) (take (end - at) (drop at xs))) ≡ pairs n (drop at xs)
-pairs_whole n at end xs e h = rw (pairs-part n at end xs e h) (put_whole (replicate n 0) (pairs n (drop at xs)) (rw (length_pairs, length-replicate)))
+-- numbers that fill an array
+pub pairs_full : (n : ℕ) (xs : List ℕ) → length xs ≡ n * 2 → put (replicate n 0) 0 (pairs (length xs / 2) xs) ≡ pairs n xs
+pairs_full n xs e =
+    let half : n * 2 / 2 ≡ n = omega arith in
+    rw (e, half) (put_whole (replicate n 0) (pairs n xs) (rw (length_pairs, length-replicate)))

@@ -1,14 +1,23 @@
 -- Items of one width, read and written one by one.
 use mathlib.Core.List.{List, [], ◌∷◌, ◌++◌, append_assoc, append-nil}
-use mathlib.Core.Path.{◌≡◌, sym, ap, ◌∙◌}
+use mathlib.Core.Path.{◌≡◌, refl, sym, ap, ◌∙◌}
 use Prim.Native.Nat.{ℕ, zero, suc, ◌+◌, ◌*◌, ◌≤◌, ◌<◌}
 use native.Mathlib.Nat.{add_comm, zero-mul, suc-mul}
 use native.Mathlib.Numerals.{add-one}
 use native.Mathlib.Omega.{arith}
 use lib.ListN.{length, get_or, take, drop, set, length-append}
 use lib.Seq.{take_all, take-suc, take-suc-set, drop-drop}
+use Rattle.std.specs.Simd.{first_chunks}
 use Rattle.octets.specs.Octets.{put}
 use Rattle.octets.proofs.Put.{put-put}
+
+-- part k of the parts of w octets
+pub chunk_at : (w k n : ℕ) (xs : List ℕ) → k < n → get_or (first_chunks w n xs) k [] ≡ take w (drop (k * w) xs)
+chunk_at w k zero xs h = absurd (omega arith)
+chunk_at w zero (suc n) xs h = rw (zero-mul w) refl
+chunk_at w (suc k) (suc n) xs h =
+    let e : w + k * w ≡ suc k * w = add_comm w (k * w) ∙ sym (suc-mul k w) in
+    chunk_at w k n (drop w xs) (omega arith) ∙ rw (drop-drop (k * w) w xs, e)
 
 -- g reads n items of w octets, each by f
 module _ {A : Type 0} (w : ℕ) (f : List ℕ → A) (g : ℕ → List ℕ → List A) (none : (xs : List ℕ) → g zero xs ≡ [])

@@ -1,7 +1,7 @@
 use mathlib.Core.Path.{◌≡◌, sym, ◌∙◌}
 use Rattle.std.proofs.Common.{arith, ◌/◌, length, replicate}
 use lib.ListN.{length-replicate}
-use Rattle.octets.specs.Octets.{pairs}
+use Rattle.octets.specs.Octets.{pairs, number16}
 use Rattle.octets.proofs.Put.{put-none}
 use Rattle.octets.proofs.Pairs.{pairs-put, pair_at}
 use Rattle.octets.proofs.read_pairs.Goals as goal
@@ -11,6 +11,7 @@ unfolding pairs
 loop-j-init g c = sym (put-none _ 0)
 
 pub loop-j-preserved : goal.loop-j-preserved
+unfolding number16
 loop-j-preserved g c =
     let l = c.loop-j in
     let xs = c.args.octets.now in

@@ -1,9 +1,15 @@
 -- `images::receiving::row_of` meets its contract.
-use mathlib.Core.Path.{refl, ◌∙◌}
+use mathlib.Core.Path.{◌≡◌}
 use native.Mathlib.Omega.{arith}
-use Rattle.octets.proofs.Pairs.{pairs_whole}
-use Rattle.images.proofs.Rows.{row_read}
+use lib.ListN.{length, take, drop, length-drop}
+use lib.Seq.{length-take-le}
+use Rattle.octets.proofs.Pairs.{pairs_full, pairs-take}
+use Rattle.images.specs.Receiver.{row_of}
 use Rattle.images.proofs.receiving.row_of.Goals as goal
 
 pub returns : goal.returns
-returns c = row_read c.args.image.now c.args.at _ _ _ _ c.phase_of.ensures refl c.indexes_of.ensures (c.read_pairs.ensures ∙ pairs_whole 64 _ _ c.args.image.now (omega arith) (omega arith))
+unfolding row_of
+returns c =
+    let ys = drop 68 c.args.octets.now in
+    let full : length (take 128 ys) ≡ 128 = length-take-le 128 ys (rw length-drop (omega arith)) in
+    rw (c.phase_of.ensures, c.indexes_of.ensures, c.read_pairs.ensures, pairs_full 64 (take 128 ys) full, pairs-take 64 ys)
