@@ -74,12 +74,7 @@ impl From<Fault> for u32 {
 fn zeros(s: &[u8]) -> usize
     ensures { result ≡ zeros s.now }
 {
-    for (n, octet) in s.iter().enumerate() {
-        if *octet != 0 {
-            return n;
-        }
-    }
-    s.len()
+    s.iter().position(|octet| *octet != 0).unwrap_or(s.len())
 }
 
 // Types 0, 1 and 6 to 255 are passed over. Document 000, section 7: the start, of type 3, stands for an end.

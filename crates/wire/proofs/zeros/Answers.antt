@@ -1,21 +1,17 @@
-use mathlib.Core.Path.{◌≡◌, ap}
-use native.Mathlib.Omega.{arith}
-use lib.ListN.{length, drop, drop_of_length-le}
-use Rattle.wire.proofs.Runs.{zeros-more, zeros_stop, zeros_fit}
+-- `wire::zeros` meets its contract.
+use mathlib.Core.List.{[]}
+use mathlib.Core.Path.{◌≡◌, refl, sym, ◌∙◌}
+use Rattle.std.proofs.Common.{rules, tests}
+use Rattle.std.proofs.lemmas.Iterator.{YieldsList-from_slice, IsFirst-from_position, index_from_first}
+use Rattle.wire.specs.Layout.{zeros}
+use Rattle.wire.proofs.Runs.{zeros-zero, zeros-other}
 use Rattle.wire.proofs.zeros.Goals as goal
 
-pub returns-then-octet-ne0 : goal.returns-then-octet-ne0
-returns-then-octet-ne0 c =
-    let z = zeros_stop c.args.s.now c.loop-n.n c.loop-n-test.true c.if-octet-ne0.true in
-    omega (arith, c.loop-n.invariant)
-
-pub loop-n-preserved : goal.loop-n-preserved
-loop-n-preserved c =
-    let z = zeros-more c.args.s.now c.loop-n.n c.loop-n-test.true c.if-octet-ne0.false in
-    omega (arith, c.loop-n.invariant)
+empty : zeros [] ≡ 0
+unfolding zeros
+empty = refl
 
 pub returns : goal.returns
 returns c =
-    let z = zeros_fit (drop c.loop-n.n c.args.s.now) in
-    let d : length (drop c.loop-n.n c.args.s.now) ≡ 0 = ap length (drop_of_length-le _ c.loop-n-test.false) in
-    omega (arith, c.loop-n.invariant)
+    let first = IsFirst-from_position _ _ c.position.result (λ x. x ≡ 0 → ⊥) (λ x. x ≡ 0) c.position.ensures.ran (YieldsList-from_slice c.args.s.now cc) (λ x q k. search (rules, tests)) (λ x q k. search (rules, tests)) in
+    c.unwrap_or.ensures ∙ sym (index_from_first zeros (λ x. x ≡ 0 → ⊥) (λ x. x ≡ 0) empty (λ x xs h. zeros-other x xs h) (λ x xs h. zeros-zero x xs h) c.args.s.now c.position.result first)
