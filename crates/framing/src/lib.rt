@@ -110,7 +110,7 @@ impl State {
 
     // The index of the next piece of a bundle.
     fn piece_index(self, length: usize) -> u32
-        requires { (self.fill + 13 ≤ self.size) × (self.size ≤ 2048) × (self.size < length + 4) × (length ≤ Placing.bundle_max) × (self.index ≤ 64) }
+        requires { (self.fill + 13 ≤ self.size) × (self.size < length + 4) × (length ≤ Placing.bundle_max) × (self.index ≤ 64) }
         ensures { (result ≡ Placing.piece_index self length) × (result ≤ 8192) }
     {
         match self.version {
@@ -124,7 +124,7 @@ impl State {
 
 // The index of a start, which carries `most` octets.
 fn start_index(size: usize, most: usize, length: usize) -> u32
-    requires { (13 ≤ size) × (size ≤ 2048) × (most ≤ length) × (length ≤ Placing.bundle_max) }
+    requires { (13 ≤ size) × (most ≤ length) × (length ≤ Placing.bundle_max) }
     ensures { (result ≡ Placing.rounded_up (length - most) (size - 12)) × (result ≤ 8192) }
 {
     (length - most).div_ceil(size - 12) as u32
@@ -152,7 +152,7 @@ fn marks(version: Version, begun: bool, last: bool) -> bool
 
 // After n octets more in the frame.
 fn advanced(s: State, n: usize) -> Sent
-    requires { (s.fill + n ≤ s.size) × (s.size ≤ 2048) }
+    requires { s.fill + n ≤ s.size }
     ensures { (d : List ℕ) → outcome result d ≡ Placing.advanced s n d }
 {
     let fill = s.fill + n;
@@ -168,6 +168,7 @@ fn advanced(s: State, n: usize) -> Sent
     }
 }
 
+// The bounds stand in clauses, here and below, and in no type: a State holds what `sender::sound` refuses.
 pub fn close(s: State, frame: &mut [u8]) -> Sent
     requires { (s.fill ≤ s.size) × (s.size ≤ 2048) × (length frame.old ≡ s.size) }
     ensures { outcome result frame.new ≡ Placing.closed s frame.old }
@@ -181,7 +182,7 @@ pub fn close(s: State, frame: &mut [u8]) -> Sent
 
 // The next piece of the bundle, in a room for its header, number and index.
 fn place_piece(s: State, bundle: &[u8], frame: &mut [u8]) -> Sent
-    requires fill_bound { (s.fill + 13 ≤ s.size) × (s.size ≤ 2048) × (length frame.old ≡ s.size) × (s.size < length bundle.now + 4) }
+    requires fill_bound { (s.fill + 13 ≤ s.size) × (s.size ≤ length frame.old) × (s.size < length bundle.now + 4) }
     requires placed_in_bounds { (s.placed < length bundle.now) × (length bundle.now ≤ Placing.bundle_max) × (s.index ≤ 64) }
     ensures { outcome result frame.new ≡ Placing.place_piece s bundle.now frame.old }
 {
@@ -233,7 +234,7 @@ pub fn placing(s: State, bundle: &[u8], frame: &mut [u8]) -> Sent
 
 // A cancel for the transfer begun, which ends.
 pub fn cancelling(s: State, frame: &mut [u8]) -> Sent
-    requires { (s.fill + 8 ≤ s.size) × (s.size ≤ 2048) × (length frame.old ≡ s.size) }
+    requires { (s.fill + 8 ≤ s.size) × (s.size ≤ length frame.old) }
     ensures { outcome result frame.new ≡ Placing.added (Placing.ended s) (Message.cancel s.number) frame.old }
 {
     writing::put_cancel(frame, s.fill, s.number);

@@ -28,7 +28,7 @@ pub struct Scan {
     pub above: bool,
 }
 
-// The start that is noted for an index that is not held.
+// The start that is noted for an index that is not held. A number and no Option: the definition `absent` and the law `Right` speak of numbers.
 const ABSENT: u16 = 65535;
 
 // Looks for an index. One pass gives both answers, without an early exit: the compiler makes a vector loop of it.
@@ -58,7 +58,6 @@ fn past_lower(indexes: &[u8], place: usize, index: u8) -> usize
 
 // Whether every index from 0 to last is held: a search among the pieces for each, left by the label where one is missing.
 fn all_held(indexes: &[u8], last: u8) -> bool
-    requires { last < 64 }
     ensures { result ≡ Spec.has_all (last + 1) indexes.now }
 {
     let mut all = true;
@@ -98,7 +97,7 @@ fn note_piece(
     sizes[i] = n;
 }
 
-// Notes where each index lies, in one pass over the pieces.
+// Notes where each index lies, in one pass over the pieces. Two lists and no list of pairs: `Right` speaks of two.
 fn note_pieces(
     indexes: &[u8],
     lengths: &[u16],
@@ -159,9 +158,9 @@ pub fn distinct(indexes: &[u8]) -> bool
     !twice
 }
 
-// The index that is joined as the one of a place, from 0 on.
+// The index that is joined as the one of a place, from 0 on. Each order is one line, as in the definition: a closure would be no plainer.
 fn ordered(order: Order, last: u8, place: u8) -> u8
-    requires { (place ≤ last) × (last < 64) }
+    requires { place ≤ last }
     ensures { result ≡ Search.ordered order (last + 1) place }
 {
     match order {
@@ -196,7 +195,6 @@ pub fn join(
 
 // Whether the final index is known and every index up to it is held; a count of the pieces below it rules that out without a search.
 pub fn is_complete(known: bool, last: u8, indexes: &[u8]) -> bool
-    requires { last < 64 }
     ensures { result ≡ (known && Spec.has_all (last + 1) indexes.now) }
 {
     known && (last as usize) < indexes.len() && all_held(indexes, last)

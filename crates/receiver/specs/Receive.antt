@@ -23,14 +23,10 @@ use Rattle.rows.specs.Message.{Draft, draft_of, messages_from, Board, Handed, Ou
 abbrev pub window_refusal : ℕ
 window_refusal = 21
 
--- "The window becomes 4, 8 or 16, chosen at start and kept in the state, else refusal 21" (document 02, E6); 0 for none
-abbrev pub start_refusal : ℕ → ℕ
-start_refusal w = cond (is_window w) 0 window_refusal
-
 abbrev pub wrong_window : WrongWindow
 wrong_window = record {}
 
--- what a start answers
+-- "The window becomes 4, 8 or 16, chosen at start and kept in the state, else refusal 21" (document 02, E6)
 unfoldable pub start : Version → ℕ → Result State WrongWindow
 start v w = cond (is_window w) (Ok (fresh v w)) (Err wrong_window)
 

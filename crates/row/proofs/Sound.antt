@@ -68,10 +68,6 @@ open_facts r e =
       unknown = last_unknown r.known r.last (indexes_of r) a.1;
     }
 
-pub pieces_low : (r : Row) → sound_pieces r ≡ true → has_above 63 (indexes_of r) ≡ false
-unfolding sound_pieces
-pieces_low r e = (low-distinct (indexes_of r) (both (low_and_distinct (indexes_of r)) (leb (sum_of (lengths_of r)) bundle_max && zero_from r.held r.indexes r.lengths) e).0).1
-
 empty_facts : (r : Row) → sound_empty r ≡ true → Sound r
 unfolding sound_empty indexes_of lengths_of distinct has_above sum_of zero_from
 empty_facts r e =

@@ -1,8 +1,7 @@
 // The row of one transfer: its phase and pieces, the verdict of the row rules on a segment or an end, and what makes a row sound.
 #![tactic(auto)]
 
-ghost use Rattle.std.specs.Prelude.{◌≡◌, true, false, ◌≤◌};
-ghost use Rattle.pieces.specs.Pieces.{has_above};
+ghost use Rattle.std.specs.Prelude.{◌≡◌, true, ◌≤◌};
 ghost use Rattle.row.specs.Row as Spec;
 
 use pieces::{BUNDLE_MAX, INDEX_COUNT, Scan};
@@ -115,7 +114,7 @@ pub fn judge(row: Row, index: u32, length: usize, ending: bool) -> Verdict
 
 // The final index of an open row.
 fn sound_last(row: Row) -> bool
-    requires { (row.held ≤ 64) × (has_above 63 (Spec.indexes_of row) ≡ false) }
+    requires { row.held ≤ 64 }
     ensures { result ≡ Spec.sound_last row.known row.last (Spec.indexes_of row) }
 {
     if !row.known {

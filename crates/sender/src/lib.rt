@@ -44,14 +44,14 @@ fn under_way(s: State) -> bool
 }
 
 fn pieces_left(s: State) -> usize
-    requires { (13 ≤ s.size) × (s.size ≤ 2048) × (s.placed < s.length) × (s.length ≤ bundle_max) }
+    requires { (13 ≤ s.size) × (s.placed < s.length) × (s.length ≤ bundle_max) }
     ensures { (result ≡ Sound.pieces_left s) × (1 ≤ result) × (result ≤ 8192) }
 {
     (s.length - s.placed).div_ceil(s.size - 12)
 }
 
 fn indexed(s: State) -> bool
-    requires { (13 ≤ s.size) × (s.size ≤ 2048) × (s.placed < s.length) × (s.length ≤ bundle_max) }
+    requires { (13 ≤ s.size) × (s.placed < s.length) × (s.length ≤ bundle_max) }
     ensures { result ≡ Sound.indexed s }
 {
     let left = pieces_left(s);

@@ -1,11 +1,9 @@
--- `row::sound_last` meets its contract. The tests in the definition's order; the final is at most 63 since it is held.
+-- `row::sound_last` meets its contract. The tests in the definition's order.
 use mathlib.Core.Path.{◌≡◌, sym, ap, ◌∙◌}
 use mathlib.Core.Bool.{true, not, ◌&&◌}
-use native.Mathlib.Omega.{arith}
 use lib.ListN.{take}
 use Rattle.octets.proofs.Flags.{and}
 use Rattle.pieces.specs.Pieces.{has, has_above}
-use Rattle.pieces.proofs.Counting.{above-has}
 use Rattle.row.specs.Row.{sound_last, indexes_of}
 use Rattle.row.proofs.Chain.{passed, failed}
 use Rattle.row.proofs.sound_last.Goals.{Then-not-scan, then-scan, else-scan}
@@ -22,12 +20,6 @@ held c =
       | then-scan w ↦ (sym c.scan_for-scan.ensures.held ∙ w.if-scan.true, rw c.scan_for-scan.ensures.above at (sym w.value-is ∙ c.if-not-scan.true))
       | else-scan w ↦ absurd (cc)
     ]
-
-pub is_complete-requires : goal.is_complete-requires
-unfolding indexes_of
-is_complete-requires c =
-    let r = c.args.row in
-    omega (arith, above-has 63 r.last (take r.held r.indexes) c.requires.1 (held (goal.at.is_complete-requires c).Then-not-scan).0)
 
 pub returns-then-not-scan : goal.returns-then-not-scan
 unfolding sound_last indexes_of

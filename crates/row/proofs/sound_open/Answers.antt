@@ -6,7 +6,6 @@ use lib.Dec.{leb}
 use borrow.Author.Tests.{leb-true}
 use Rattle.octets.proofs.Flags.{and, both}
 use Rattle.row.proofs.Chain.{passed, failed}
-use Rattle.row.proofs.Sound.{pieces_low}
 use Rattle.row.specs.Row.{sound_open, sound_pieces}
 use Rattle.row.proofs.sound_open.Goals.{After-contains, Then-sound_pieces, then-contains, else-contains}
 use Rattle.row.proofs.sound_open.Goals as goal
@@ -27,7 +26,7 @@ sound_last-requires c =
     let held = c.args.row.held in
     let i = inside (goal.at.sound_last-requires c).After-contains in
     let s = sound (goal.at.sound_last-requires c).Then-sound_pieces in
-    (leb-true held 64 (both (leb 1 held) (leb held 64) (sym i ∙ s.0)).1, pieces_low c.args.row s.1)
+    leb-true held 64 (both (leb 1 held) (leb held 64) (sym i ∙ s.0)).1
 
 pub returns-then-sound_pieces : goal.returns-then-sound_pieces
 unfolding sound_open
