@@ -4,7 +4,7 @@ ghost use Rattle.framing.specs.Answers.{reply};
 ghost use Rattle.answers.specs.Sender as Spec;
 
 use images::sending::IMAGE_SIZE;
-use sender::{Answer, Sent};
+use sender::{Answer, Refusal, State};
 
 fn code(answer: Answer) -> u64
     ensures { (r : List ℕ) → set r 0 result ≡ Spec.report (reply (Ok answer)) r }
@@ -18,14 +18,19 @@ fn code(answer: Answer) -> u64
 }
 
 // Keeps the state and reports the answer; a refused call writes nothing.
-pub fn finish(image: &mut [u8; IMAGE_SIZE], sent: Sent, res: &mut [u64; 4]) -> u32
-    ensures { (result ≡ Spec.status (reply sent.answer))
-        × (image.new ≡ Spec.kept (reply sent.answer) image.old sent.state)
-        × (res.new ≡ Spec.report (reply sent.answer) res.old) }
+pub fn finish(
+    image: &mut [u8; IMAGE_SIZE],
+    answer: Result<Answer, Refusal>,
+    state: State,
+    res: &mut [u64; 4],
+) -> u32
+    ensures { (result ≡ Spec.status (reply answer))
+        × (image.new ≡ Spec.kept (reply answer) image.old state)
+        × (res.new ≡ Spec.report (reply answer) res.old) }
 {
-    match sent.answer {
+    match answer {
         Ok(answer) => {
-            images::sending::put_state(image, sent.state);
+            images::sending::put_state(image, state);
             res[0] = code(answer);
             0
         }

@@ -3,10 +3,10 @@ use mathlib.Core.Bool.{true, false}
 use mathlib.Core.List.{List}
 use mathlib.Core.Path.{◌≡◌}
 use Prim.Native.Nat.{ℕ}
-use Rattle.std.specs.Prelude.{Ok, Err}
+use Rattle.std.specs.Prelude.{Ok, Err, Result}
 use Rattle.wire.specs.declared.Version.{Version}
+use Rattle.framing.specs.declared.Answer.{Answer}
 use Rattle.framing.specs.declared.Refusal.{Refusal}
-use Rattle.framing.specs.declared.Sent.{Sent}
 use Rattle.framing.specs.declared.State.{State}
 use Rattle.framing.specs.Answers.{reply, refusal_number, Outcome, outcome}
 use Rattle.sender.specs.Answers.{start_reply}
@@ -21,11 +21,11 @@ unfolding unless_image
 image-refused image frame result e h = rw h
 
 -- what the parts of a call leave, put together
-pub image-answered : (image frame result : List ℕ) → is_image image ≡ true → (o : Outcome) (r : Sent) (frame' : List ℕ) → outcome r frame' ≡ o
-    → (n : ℕ) (image' result' : List ℕ) → n ≡ status (reply r.answer) → image' ≡ kept (reply r.answer) image r.state → result' ≡ report (reply r.answer) result
+pub image-answered : (image frame result : List ℕ) → is_image image ≡ true → (o : Outcome) (r : Result Answer Refusal) (s : State) (frame' : List ℕ) → outcome r s frame' ≡ o
+    → (n : ℕ) (image' result' : List ℕ) → n ≡ status (reply r) → image' ≡ kept (reply r) image s → result' ≡ report (reply r) result
     → ◌≡◌ {A = Exported} (record { status = n; image = image'; frame = frame'; result = result' }) (unless_image image frame result (exported o image result))
 unfolding unless_image exported
-image-answered image frame result h o r frame' e n image' result' en ei er = rw (h, ← e, en, ei, er)
+image-answered image frame result h o r s frame' e n image' result' en ei er = rw (h, ← e, en, ei, er)
 
 pub sender_made : (v : Version) (image image' : List ℕ) (size first : ℕ) (m : State) → start_reply (Ok m) ≡ Calls.start v size first → image' ≡ image_of m → ◌≡◌ {A = ℕ × List ℕ} (0, image') (started v image size first)
 unfolding started started_with start_reply

@@ -51,11 +51,11 @@ pub fn btpu_place(
     ensures { record { status = result; image = state.new; frame = frame.new; result = res.new }
         ≡ Spec.placed_by state.old bundle.now frame.old res.old }
 {
-    let Some(s) = images::sending::read(state) else {
+    let Some(mut s) = images::sending::read(state) else {
         return 1;
     };
-    let sent = sender::place(s, bundle, frame);
-    answers::sending::finish(state, sent, res)
+    let answer = sender::place(&mut s, bundle, frame);
+    answers::sending::finish(state, answer, s, res)
 }
 
 // Cancelling the transfer begun, on an image.
@@ -63,11 +63,11 @@ pub fn btpu_cancel(state: &mut [u8; IMAGE_SIZE], frame: &mut [u8], res: &mut [u6
     ensures { record { status = result; image = state.new; frame = frame.new; result = res.new }
         ≡ Spec.cancelled_by state.old frame.old res.old }
 {
-    let Some(s) = images::sending::read(state) else {
+    let Some(mut s) = images::sending::read(state) else {
         return 1;
     };
-    let sent = sender::cancel(s, frame);
-    answers::sending::finish(state, sent, res)
+    let answer = sender::cancel(&mut s, frame);
+    answers::sending::finish(state, answer, s, res)
 }
 
 // Flushing, on an image.
@@ -75,9 +75,9 @@ pub fn btpu_flush(state: &mut [u8; IMAGE_SIZE], frame: &mut [u8], res: &mut [u64
     ensures { record { status = result; image = state.new; frame = frame.new; result = res.new }
         ≡ Spec.flushed_by state.old frame.old res.old }
 {
-    let Some(s) = images::sending::read(state) else {
+    let Some(mut s) = images::sending::read(state) else {
         return 1;
     };
-    let sent = sender::flush(s, frame);
-    answers::sending::finish(state, sent, res)
+    let answer = sender::flush(&mut s, frame);
+    answers::sending::finish(state, answer, s, res)
 }

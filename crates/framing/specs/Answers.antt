@@ -5,7 +5,6 @@ use Rattle.framing.specs.declared.Refusal.{Refusal}
 use Rattle.framing.specs.declared.Refusal.TheVariants.{Unsound, WrongBuffer, BundleSize, OtherLength, NoTransfer, FrameSize}
 use Rattle.framing.specs.declared.Answer.{Answer}
 use Rattle.framing.specs.declared.Answer.TheVariants.{Placed, PlacedReady, Ready, Nothing}
-use Rattle.framing.specs.declared.Sent.{Sent}
 
 -- An answer in document 01's words, a refusal by its number.
 pub data Reply : Type 0 where
@@ -36,6 +35,6 @@ pub record Outcome : Type 0 where
   pub state : State
   pub frame : List ℕ
 
--- what a call returned, and the frame buffer as it left it
-abbrev pub outcome : Sent → List ℕ → Outcome
-outcome r d = record { answer = reply r.answer; state = r.state; frame = d }
+-- what a call answered, and the state and the frame buffer as it left them
+abbrev pub outcome : Result Answer Refusal → State → List ℕ → Outcome
+outcome r s d = record { answer = reply r; state = s; frame = d }

@@ -1,7 +1,7 @@
 // A sender's state, the answers of its calls, and the steps that add one message or one padding to its frame (document 01, "Sending calls").
 #![tactic(auto)]
 
-ghost use Rattle.std.specs.Prelude.{◌≡◌, ℕ, ◌+◌, ◌-◌, ◌<◌, ◌≤◌, List, length};
+ghost use Rattle.std.specs.Prelude.{◌≡◌, ℕ, ◌+◌, ◌-◌, ◌<◌, ◌≤◌, List, length, Ok};
 ghost use Rattle.wire.specs.Message as Message;
 ghost use Rattle.framing.specs.Answers.{refusal_number, outcome};
 ghost use Rattle.framing.specs.Placing as Placing;
@@ -42,13 +42,6 @@ pub enum Answer {
     Nothing,
 }
 
-// What a step returns, as place, cancel and flush do.
-#[derive(Clone, Copy)]
-pub struct Sent {
-    pub answer: Result<Answer, Refusal>,
-    pub state: State,
-}
-
 // Document 01's number of a refusal.
 impl From<Refusal> for u32 {
     ghost from_gives = { λ refusal n. n ≡ refusal_number refusal };
@@ -79,7 +72,7 @@ impl State {
         }
     }
 
-    // The transfer begun, or one that takes the next number.
+    // The transfer begun, or one that takes the next number. By value: a piece is marked by the state before and numbered by the one after.
     fn numbered(self) -> State
         ensures { result ≡ Placing.numbered self }
     {
@@ -150,41 +143,34 @@ fn marks(version: Version, begun: bool, last: bool) -> bool
     }
 }
 
-// After n octets more in the frame.
-fn advanced(s: State, n: usize) -> Sent
-    requires { s.fill + n ≤ s.size }
-    ensures { (d : List ℕ) → outcome result d ≡ Placing.advanced s n d }
+// Counts n octets more in the frame, which is ready where they fill it. No step refuses: the calls of `sender` have tested before.
+fn advanced(s: &mut State, n: usize) -> Answer
+    requires { s.old.fill + n ≤ s.old.size }
+    ensures { (d : List ℕ) → outcome (Ok result) s.new d ≡ Placing.advanced s.old n d }
 {
-    let fill = s.fill + n;
-    if fill == s.size {
-        return Sent {
-            answer: Ok(Answer::PlacedReady),
-            state: State { fill: 0, ..s },
-        };
+    s.fill += n;
+    if s.fill == s.size {
+        s.fill = 0;
+        return Answer::PlacedReady;
     }
-    Sent {
-        answer: Ok(Answer::Placed),
-        state: State { fill, ..s },
-    }
+    Answer::Placed
 }
 
 // The bounds stand in clauses, here and below, and in no type: a State holds what `sender::sound` refuses.
-pub fn close(s: State, frame: &mut [u8]) -> Sent
-    requires { (s.fill ≤ s.size) × (s.size ≤ 2048) × (length frame.old ≡ s.size) }
-    ensures { outcome result frame.new ≡ Placing.closed s frame.old }
+pub fn close(s: &mut State, frame: &mut [u8]) -> Answer
+    requires { (s.old.fill ≤ s.old.size) × (s.old.size ≤ 2048) × (length frame.old ≡ s.old.size) }
+    ensures { outcome (Ok result) s.new frame.new ≡ Placing.closed s.old frame.old }
 {
     writing::put_padding(frame, s.fill);
-    Sent {
-        answer: Ok(Answer::Ready),
-        state: State { fill: 0, ..s },
-    }
+    s.fill = 0;
+    Answer::Ready
 }
 
 // The next piece of the bundle, in a room for its header, number and index.
-fn place_piece(s: State, bundle: &[u8], frame: &mut [u8]) -> Sent
-    requires fill_bound { (s.fill + 13 ≤ s.size) × (s.size ≤ length frame.old) × (s.size < length bundle.now + 4) }
-    requires placed_in_bounds { (s.placed < length bundle.now) × (length bundle.now ≤ Placing.bundle_max) × (s.index ≤ 64) }
-    ensures { outcome result frame.new ≡ Placing.place_piece s bundle.now frame.old }
+fn place_piece(s: &mut State, bundle: &[u8], frame: &mut [u8]) -> Answer
+    requires fill_bound { (s.old.fill + 13 ≤ s.old.size) × (s.old.size ≤ length frame.old) × (s.old.size < length bundle.now + 4) }
+    requires placed_in_bounds { (s.old.placed < length bundle.now) × (length bundle.now ≤ Placing.bundle_max) × (s.old.index ≤ 64) }
+    ensures { outcome (Ok result) s.new frame.new ≡ Placing.place_piece s.old bundle.now frame.old }
 {
     let rest = &bundle[s.placed..];
     let most = s.size - s.fill - 12;
@@ -193,7 +179,8 @@ fn place_piece(s: State, bundle: &[u8], frame: &mut [u8]) -> Sent
     if rest.len() <= most {
         let ending = marks(s.version, s.begun, true);
         writing::put_piece(s.version, frame, s.fill, ending, t.number, index, rest);
-        return advanced(t.ended(), rest.len() + 12);
+        *s = t.ended();
+        return advanced(s, rest.len() + 12);
     }
     let ending = marks(s.version, s.begun, false);
     writing::put_piece(
@@ -206,7 +193,8 @@ fn place_piece(s: State, bundle: &[u8], frame: &mut [u8]) -> Sent
         &rest[..most],
     );
     let next = next_index(s.version, index);
-    advanced(t.continued(bundle.len(), most, next), most + 12)
+    *s = t.continued(bundle.len(), most, next);
+    advanced(s, most + 12)
 }
 
 fn tight(room: usize) -> bool
@@ -215,10 +203,10 @@ fn tight(room: usize) -> bool
     room < 13
 }
 
-pub fn placing(s: State, bundle: &[u8], frame: &mut [u8]) -> Sent
-    requires fill_lt_size { (s.fill < s.size) × (s.size ≤ 2048) × (length frame.old ≡ s.size) }
-    requires placed_in_bounds { (s.placed < length bundle.now) × (length bundle.now ≤ Placing.bundle_max) × (s.index ≤ 64) }
-    ensures { outcome result frame.new ≡ Placing.placing s bundle.now frame.old }
+pub fn placing(s: &mut State, bundle: &[u8], frame: &mut [u8]) -> Answer
+    requires fill_lt_size { (s.old.fill < s.old.size) × (s.old.size ≤ 2048) × (length frame.old ≡ s.old.size) }
+    requires placed_in_bounds { (s.old.placed < length bundle.now) × (length bundle.now ≤ Placing.bundle_max) × (s.old.index ≤ 64) }
+    ensures { outcome (Ok result) s.new frame.new ≡ Placing.placing s.old bundle.now frame.old }
 {
     let n = bundle.len() + 4;
     let room = s.size - s.fill;
@@ -233,10 +221,11 @@ pub fn placing(s: State, bundle: &[u8], frame: &mut [u8]) -> Sent
 }
 
 // A cancel for the transfer begun, which ends.
-pub fn cancelling(s: State, frame: &mut [u8]) -> Sent
-    requires { (s.fill + 8 ≤ s.size) × (s.size ≤ length frame.old) }
-    ensures { outcome result frame.new ≡ Placing.added (Placing.ended s) (Message.cancel s.number) frame.old }
+pub fn cancelling(s: &mut State, frame: &mut [u8]) -> Answer
+    requires { (s.old.fill + 8 ≤ s.old.size) × (s.old.size ≤ length frame.old) }
+    ensures { outcome (Ok result) s.new frame.new ≡ Placing.added (Placing.ended s.old) (Message.cancel s.old.number) frame.old }
 {
     writing::put_cancel(frame, s.fill, s.number);
-    advanced(s.ended(), 8)
+    *s = s.ended();
+    advanced(s, 8)
 }

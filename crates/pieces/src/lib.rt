@@ -28,7 +28,7 @@ pub struct Scan {
     pub above: bool,
 }
 
-// The start that is noted for an index that is not held. A number and no Option: the definition `absent` and the law `Right` speak of numbers.
+// The start that is noted for an index that is not held. A number and no Option, as `absent` and the law `Right` have it.
 const ABSENT: u16 = 65535;
 
 // Looks for an index. One pass gives both answers, without an early exit: the compiler makes a vector loop of it.

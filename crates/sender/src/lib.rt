@@ -9,7 +9,7 @@ ghost use Rattle.sender.specs.Answers.{start_reply, given, first_of};
 ghost use Rattle.sender.specs.Sound as Sound;
 ghost use Rattle.sender.specs.Calls as Calls;
 
-pub use framing::{Answer, Refusal, Sent, State};
+pub use framing::{Answer, Refusal, State};
 use wire::Version;
 
 const BUNDLE_MAX: usize = 4096;
@@ -135,42 +135,26 @@ fn admit_cancel(s: State, frame: &[u8]) -> Result<(), Refusal>
     Ok(())
 }
 
-pub fn place(s: State, bundle: &[u8], frame: &mut [u8]) -> Sent
-    ensures { outcome result frame.new ≡ Calls.place s bundle.now frame.old }
+pub fn place(s: &mut State, bundle: &[u8], frame: &mut [u8]) -> Result<Answer, Refusal>
+    ensures { outcome result s.new frame.new ≡ Calls.place s.old bundle.now frame.old }
 {
-    match admit_bundle(s, bundle, frame) {
-        Ok(()) => framing::placing(s, bundle, frame),
-        Err(refusal) => Sent {
-            answer: Err(refusal),
-            state: s,
-        },
-    }
+    admit_bundle(*s, bundle, frame)?;
+    Ok(framing::placing(s, bundle, frame))
 }
 
-pub fn cancel(s: State, frame: &mut [u8]) -> Sent
-    ensures { outcome result frame.new ≡ Calls.cancel s frame.old }
+pub fn cancel(s: &mut State, frame: &mut [u8]) -> Result<Answer, Refusal>
+    ensures { outcome result s.new frame.new ≡ Calls.cancel s.old frame.old }
 {
-    match admit_cancel(s, frame) {
-        Ok(()) => framing::cancelling(s, frame),
-        Err(refusal) => Sent {
-            answer: Err(refusal),
-            state: s,
-        },
-    }
+    admit_cancel(*s, frame)?;
+    Ok(framing::cancelling(s, frame))
 }
 
-pub fn flush(s: State, frame: &mut [u8]) -> Sent
-    ensures { outcome result frame.new ≡ Calls.flush s frame.old }
+pub fn flush(s: &mut State, frame: &mut [u8]) -> Result<Answer, Refusal>
+    ensures { outcome result s.new frame.new ≡ Calls.flush s.old frame.old }
 {
-    match admit(s, frame) {
-        Ok(()) if s.fill == 0 => Sent {
-            answer: Ok(Answer::Nothing),
-            state: s,
-        },
-        Ok(()) => framing::close(s, frame),
-        Err(refusal) => Sent {
-            answer: Err(refusal),
-            state: s,
-        },
+    admit(*s, frame)?;
+    if s.fill == 0 {
+        return Ok(Answer::Nothing);
     }
+    Ok(framing::close(s, frame))
 }

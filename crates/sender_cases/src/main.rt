@@ -1,7 +1,7 @@
 // Runs the cases of document 01, "Marked cases", "By program": each call's answer, the fill that it leaves, and the frame.
 #![tactic(auto)]
 
-use sender::{Answer, Sent, State};
+use sender::{Answer, State};
 use std::io;
 
 // Octet i of a bundle is 37 i + 11 (i / 256) modulo 256.
@@ -20,29 +20,26 @@ fn write_hex(rt: &impl Print, octets: &[u8]) -> io::Result<()> {
     println!(rt)
 }
 
-fn place(rt: &impl Print, s: State, bundle: &[u8], frame: &mut [u8]) -> io::Result<State> {
-    let Sent { answer, state } = sender::place(s, bundle, frame);
-    let text = match answer {
+fn place(rt: &impl Print, s: &mut State, bundle: &[u8], frame: &mut [u8]) -> io::Result<()> {
+    let text = match sender::place(s, bundle, frame) {
         Ok(Answer::Placed) => "Placed",
         Ok(Answer::PlacedReady) => "Placed and ready",
         Ok(Answer::Ready) => "Ready",
         Ok(Answer::Nothing) => "Nothing",
         Err(_) => "Refused",
     };
-    println!(rt; "{:03}: {text}, fill {:03}", bundle.len(), state.fill)?;
-    write_hex(rt, frame)?;
-    Ok(state)
+    println!(rt; "{:03}: {text}, fill {:03}", bundle.len(), s.fill)?;
+    write_hex(rt, frame)
 }
 
 // A bundle in three pieces, and then another one.
 fn pieces_then(rt: &impl Print, first: State, bundle: &[u8], other: &[u8]) -> io::Result<()> {
     let mut frame = [7u8; 128];
-    let mut state = first;
+    let mut s = first;
     for _ in 0..3 {
-        state = place(rt, state, bundle, &mut frame)?;
+        place(rt, &mut s, bundle, &mut frame)?;
     }
-    place(rt, state, other, &mut frame)?;
-    Ok(())
+    place(rt, &mut s, other, &mut frame)
 }
 
 fn main(rt: HostRuntime) -> io::Result<()> {
@@ -53,7 +50,8 @@ fn main(rt: HostRuntime) -> io::Result<()> {
     pieces_then(&rt, s, &octets, &octets[..44])?;
     pieces_then(&rt, s, &octets, &octets[..45])?;
     let mut frame = [7u8; 128];
-    place(&rt, s, &octets[..124], &mut frame)?;
-    place(&rt, s, &octets[..125], &mut frame)?;
-    Ok(())
+    let mut whole = s;
+    place(&rt, &mut whole, &octets[..124], &mut frame)?;
+    let mut cut = s;
+    place(&rt, &mut cut, &octets[..125], &mut frame)
 }

@@ -10,5 +10,5 @@ use Rattle.framing.proofs.cancelling.Goals as goal
 pub returns : goal.returns
 unfolding content_length
 returns c =
-    let a = c.args in
-    is-added _ (ended a.s) _ 8 (Message.cancel a.s.number) a.frame.now _ c.ended.ensures c.advanced.ensures (sym (length-written a.s.version (Message.cancel a.s.number))) (c.put_cancel.ensures a.s.version)
+    let s = c.args.s.now in
+    is-added _ (ended s) _ _ 8 (Message.cancel s.number) c.args.frame.now _ c.ended.ensures c.advanced.ensures (sym (length-written s.version (Message.cancel s.number))) (c.put_cancel.ensures s.version)

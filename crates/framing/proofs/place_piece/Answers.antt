@@ -10,9 +10,11 @@ all-that-remains n b = take_all (length b - n) (drop n b) (omega (arith, length-
 pub returns-then-rest-most : goal.returns-then-rest-most
 returns-then-rest-most c =
     let a = c.args in
-    last-piece a.s a.bundle.now a.frame.now _ _ _ _ _ _ _ (all-that-remains a.s.placed a.bundle.now) c.numbered-t.ensures c.piece_index-index.ensures.0 c.advanced.ensures c.if-rest-most.true c.marks-ending.ensures c.ended.ensures c.put_piece.ensures
+    let s = a.s.now in
+    last-piece s a.bundle.now a.frame.now _ _ _ _ _ _ _ _ (all-that-remains s.placed a.bundle.now) c.numbered-t.ensures c.piece_index-index.ensures.0 c.advanced.ensures c.if-rest-most.true c.marks-ending.ensures c.ended.ensures c.put_piece.ensures
 
 pub returns : goal.returns
 returns c =
     let a = c.args in
-    next-piece a.s a.bundle.now a.frame.now _ _ _ _ _ _ _ (all-that-remains a.s.placed a.bundle.now) c.numbered-t.ensures c.piece_index-index.ensures.0 _ _ c.advanced-2.ensures refl c.if-rest-most.false c.marks-ending-2.ensures c.next_index-next.ensures c.continued.ensures c.put_piece-2.ensures
+    let s = a.s.now in
+    next-piece s a.bundle.now a.frame.now _ _ _ _ _ _ _ _ (all-that-remains s.placed a.bundle.now) c.numbered-t.ensures c.piece_index-index.ensures.0 _ _ c.advanced-2.ensures refl c.if-rest-most.false c.marks-ending-2.ensures c.next_index-next.ensures c.continued.ensures c.put_piece-2.ensures

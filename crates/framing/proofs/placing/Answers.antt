@@ -12,9 +12,10 @@ pub returns-then-n-room : goal.returns-then-n-room
 unfolding placing content_length
 returns-then-n-room c =
     let a = c.args in
-    let fits : length a.bundle.now + 4 ≤ a.s.size = omega arith in
+    let s = a.s.now in
+    let fits : length a.bundle.now + 4 ≤ s.size = omega arith in
     rw (le-leb _ _ fits, le-leb _ _ c.if-n-room.true)
-    (is-added _ a.s _ _ (bundle a.bundle.now) a.frame.now _ refl c.advanced.ensures (omega (arith, length-written a.s.version (bundle a.bundle.now))) (c.put_bundle.ensures a.s.version))
+    (is-added _ s _ _ _ (bundle a.bundle.now) a.frame.now _ refl c.advanced.ensures (omega (arith, length-written s.version (bundle a.bundle.now))) (c.put_bundle.ensures s.version))
 
 pub returns-then-tight : goal.returns-then-tight
 unfolding placing

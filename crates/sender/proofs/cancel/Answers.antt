@@ -1,7 +1,7 @@
 -- `sender::cancel` meets its contract.
-use mathlib.Core.Path.{◌∙◌}
-use native.Mathlib.Omega.{arith}
-use borrow.Author.Tests.{eqb-true, not-false}
+use Rattle.std.proofs.Common.{◌∙◌, arith, eqb-true}
+use Rattle.std.proofs.lemmas.Bool.{not-false}
+use Rattle.std.proofs.lemmas.Result.{err_from_is_err_and}
 use Rattle.framing.specs.Answers.{reply}
 use Rattle.sender.specs.Answers.{given}
 use Rattle.sender.specs.Calls.{cancel_cases, cancel}
@@ -9,23 +9,28 @@ use Rattle.sender.proofs.Ways.{Passed, cancel-passes, unless-passed, unless-give
 use Rattle.sender.proofs.Facts.{in-range, in-transfer}
 use Rattle.sender.proofs.cancel.Goals as goal
 
+pub returns-in_err-admit_cancel : goal.returns-in_err-admit_cancel
+unfolding cancel reply given
+returns-in_err-admit_cancel c =
+    let s = c.args.s.now in
+    let d = c.args.frame.now in
+    let p = err_from_is_err_and c.from_residual.result c.from_residual.ensures.1 in
+    rw (p.1, p.2) (unless-given s d _ (cancel_cases s d) _ (some_number c.in_err-admit_cancel.field-0.0) c.in_err-admit_cancel.ensures)
+
 pub cancelling-requires : goal.cancelling-requires
 unfolding Passed cancel_cases given
 cancelling-requires c =
-    let s = c.args.s in
-    let p = cancel-passes s c.args.frame.now c.in-Ok.ensures in
+    let s = c.args.s.now in
+    let p = cancel-passes s c.args.frame.now c.in_ok-admit_cancel.ensures in
     let ok = not-false _ p.0 in
     let same = eqb-true _ _ (not-false _ p.1.0) in
     let f = in-range s ok in
     let g = in-transfer s ok (not-false _ p.1.1.0) in
     omega arith
 
-pub returns-in-Ok : goal.returns-in-Ok
+pub returns : goal.returns
 unfolding cancel given
-returns-in-Ok c =
-    c.cancelling.ensures ∙ unless-passed c.args.s c.args.frame.now _ _ (cancel-passes c.args.s c.args.frame.now c.in-Ok.ensures)
-
-pub returns-in-Err : goal.returns-in-Err
-unfolding cancel reply given
-returns-in-Err c =
-    unless-given c.args.s c.args.frame.now _ (cancel_cases c.args.s c.args.frame.now) _ (some_number c.in-Err.refusal) c.in-Err.ensures
+returns c =
+    let s = c.args.s.now in
+    let d = c.args.frame.now in
+    c.cancelling.ensures ∙ unless-passed s d _ _ (cancel-passes s d c.in_ok-admit_cancel.ensures)

@@ -1,6 +1,7 @@
 -- `sender::flush` meets its contract.
-use native.Mathlib.Omega.{arith}
-use borrow.Author.Tests.{eq-eqb, ne_eqb, eqb-true, not-false}
+use Rattle.std.proofs.Common.{arith, eq-eqb, ne_eqb, eqb-true}
+use Rattle.std.proofs.lemmas.Bool.{not-false}
+use Rattle.std.proofs.lemmas.Result.{err_from_is_err_and}
 use Rattle.framing.specs.Answers.{reply}
 use Rattle.sender.specs.Answers.{given}
 use Rattle.sender.specs.Calls.{flush_cases, flush}
@@ -8,25 +9,33 @@ use Rattle.sender.proofs.Ways.{Passed, flush-passes, unless-passed, unless-given
 use Rattle.sender.proofs.Facts.{in-range}
 use Rattle.sender.proofs.flush.Goals as goal
 
-pub returns-in-Ok : goal.returns-in-Ok
+pub returns-in_err-admit : goal.returns-in_err-admit
+unfolding flush flush_cases reply given
+returns-in_err-admit c =
+    let s = c.args.s.now in
+    let d = c.args.frame.now in
+    let p = err_from_is_err_and c.from_residual.result c.from_residual.ensures.1 in
+    rw (p.1, p.2) (unless-given s d _ (flush_cases s d) _ (some_number c.in_err-admit.field-0.0) c.in_err-admit.ensures)
+
+pub returns-then-s-eq0 : goal.returns-then-s-eq0
 unfolding flush reply given
-returns-in-Ok c =
-    rw (← unless-passed c.args.s c.args.frame.now _ _ (flush-passes c.args.s c.args.frame.now c.in-Ok.ensures), eq-eqb _ _ c.if-s-eq0.true)
+returns-then-s-eq0 c =
+    let s = c.args.s.now in
+    let d = c.args.frame.now in
+    rw (← unless-passed s d _ _ (flush-passes s d c.in_ok-admit.ensures), eq-eqb _ _ c.if-s-eq0.true)
 
 pub close-requires : goal.close-requires
 unfolding Passed flush_cases given
 close-requires c =
-    let p = flush-passes c.args.s c.args.frame.now c.in-Ok-2.ensures in
+    let s = c.args.s.now in
+    let p = flush-passes s c.args.frame.now c.in_ok-admit.ensures in
     let same = eqb-true _ _ (not-false _ p.1.0) in
-    let f = in-range c.args.s (not-false _ p.0) in
+    let f = in-range s (not-false _ p.0) in
     omega arith
 
-pub returns-in-Ok-2 : goal.returns-in-Ok-2
+pub returns : goal.returns
 unfolding flush given
-returns-in-Ok-2 c =
-    rw (← unless-passed c.args.s c.args.frame.now _ _ (flush-passes c.args.s c.args.frame.now c.in-Ok-2.ensures), ne_eqb _ _ c.if-s-eq0.false) c.close.ensures
-
-pub returns-in-Err : goal.returns-in-Err
-unfolding flush flush_cases reply given
-returns-in-Err c =
-    unless-given c.args.s c.args.frame.now _ (flush_cases c.args.s c.args.frame.now) _ (some_number c.in-Err.refusal) c.in-Err.ensures
+returns c =
+    let s = c.args.s.now in
+    let d = c.args.frame.now in
+    rw (← unless-passed s d _ _ (flush-passes s d c.in_ok-admit.ensures), ne_eqb _ _ c.if-s-eq0.false) c.close.ensures

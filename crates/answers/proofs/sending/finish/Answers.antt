@@ -24,7 +24,7 @@ image-kept Nothing image s = refl
 
 pub returns-in-Ok : goal.returns-in-Ok
 returns-in-Ok c =
-    rw c.in-Ok.is (status-zero c.in-Ok.answer, c.put_state.ensures ∙ image-kept c.in-Ok.answer c.args.image.now c.args.sent.state, c.code.ensures c.args.res.now)
+    rw c.in-Ok.is (status-zero c.in-Ok.answer, c.put_state.ensures ∙ image-kept c.in-Ok.answer c.args.image.now c.args.state, c.code.ensures c.args.res.now)
 
 pub returns-in-Err : goal.returns-in-Err
 unfolding reply status report kept

@@ -12,4 +12,4 @@ pub returns : goal.returns
 unfolding cancelled_by
 returns c =
     let p = read-some c.args.state.now c.in-Some.s c.in-Some.ensures in
-    rw p.1 (image-answered _ _ _ p.0 _ c.cancel-sent.result _ c.cancel-sent.ensures _ _ _ c.finish.ensures.0 c.finish.ensures.1 c.finish.ensures.2)
+    rw p.1 (image-answered _ _ _ p.0 _ c.cancel-answer.result _ _ c.cancel-answer.ensures _ _ _ c.finish.ensures.0 c.finish.ensures.1 c.finish.ensures.2)

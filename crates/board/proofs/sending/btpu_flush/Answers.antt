@@ -12,4 +12,4 @@ pub returns : goal.returns
 unfolding flushed_by
 returns c =
     let p = read-some c.args.state.now c.in-Some.s c.in-Some.ensures in
-    rw p.1 (image-answered _ _ _ p.0 _ c.flush-sent.result _ c.flush-sent.ensures _ _ _ c.finish.ensures.0 c.finish.ensures.1 c.finish.ensures.2)
+    rw p.1 (image-answered _ _ _ p.0 _ c.flush-answer.result _ _ c.flush-answer.ensures _ _ _ c.finish.ensures.0 c.finish.ensures.1 c.finish.ensures.2)
