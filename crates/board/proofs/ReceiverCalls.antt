@@ -9,7 +9,6 @@ use Rattle.wire.specs.Frame.{frame_max}
 use Rattle.wire.specs.declared.Version.{Version}
 use Rattle.window.specs.Window.{is_window}
 use Rattle.rows.specs.State.{window_of, fresh}
-use Rattle.receiver.specs.declared.Received.{Received}
 use Rattle.rows.specs.declared.State.{State}
 use Rattle.receiver.specs.declared.Answer.{Answer}
 use Rattle.receiver.specs.declared.Refusal.{Refusal}
@@ -41,8 +40,8 @@ module _ (v : Version) (image : List ℕ) (w : ℕ) where
       go false h = rw en
 
 -- the place that an answer names lies in a frame
-pub low-place : (b : Board) (frame : List ℕ) (n : ℕ) (output : List ℕ) (r : Received) (pool output' : List ℕ) → reply r pool output' ≡ receive b frame n output → place r.answer < frame_max
-low-place b frame n output r pool output' e = go r.answer (ap (λ (x : Reply). x.answer) (sym e))
+pub low-place : (b : Board) (frame : List ℕ) (n : ℕ) (output : List ℕ) (answer : Result Answer Refusal) (s : State) (pool output' : List ℕ) → reply answer s pool output' ≡ receive b frame n output → place answer < frame_max
+low-place b frame n output answer s pool output' e = go answer (ap (λ (x : Reply). x.answer) (sym e))
   where
     go : (a : Result Answer Refusal) → (receive b frame n output).answer ≡ a → place a < frame_max
     go (Ok (Delivered length next origin)) q = omega arith
@@ -56,9 +55,9 @@ image-refused image pool frame place output result e = rw e
 
 -- what the parts of the call leave, put together
 pub image-received : (image pool frame : List ℕ) (place : ℕ) (output result : List ℕ) → is_image image ≡ true → (s : State) → s ≡ state_of image
-    → (r : Received) (pool' output' : List ℕ) → reply r pool' output' ≡ receive (record { state = s; pool = pool }) frame place output
-    → (n : ℕ) (image' result' : List ℕ) → n ≡ status r.answer → image' ≡ kept r.answer image r.state → result' ≡ report r.answer result
+    → (answer : Result Answer Refusal) (s' : State) (pool' output' : List ℕ) → reply answer s' pool' output' ≡ receive (record { state = s; pool = pool }) frame place output
+    → (n : ℕ) (image' result' : List ℕ) → n ≡ status answer → image' ≡ kept answer image s' → result' ≡ report answer result
     → ◌≡◌ {A = Exported} (record { status = n; image = image'; pool = pool'; output = output'; result = result' }) (received image pool frame place output result)
 unfolding received exported
-image-received image pool frame place output result e s es r pool' output' er n image' result' en ei eo =
+image-received image pool frame place output result e s es answer s' pool' output' er n image' result' en ei eo =
     rw (e, ← es, ← er, en, ei, eo)

@@ -34,9 +34,9 @@ pub fn btpu_receive_burst(
     if !images::receiving::is_image(state) {
         return 1;
     }
-    let s = images::receiving::state_of(state);
-    let r = burst::receive_burst(
-        s,
+    let mut s = images::receiving::state_of(state);
+    let answer = burst::receive_burst(
+        &mut s,
         pool,
         sizes,
         joined,
@@ -48,5 +48,5 @@ pub fn btpu_receive_burst(
         places,
         reasons,
     );
-    answers::bursts::finish(state, r.answer, r.state, res)
+    answers::bursts::finish(state, answer, s, res)
 }

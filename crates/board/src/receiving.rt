@@ -67,7 +67,7 @@ pub fn btpu_receive(
     if !images::receiving::is_image(state) {
         return 1;
     }
-    let s = images::receiving::state_of(state);
-    let r = receiver::receive(s, pool, frame, place as usize, output);
-    answers::receiving::finish(state, r.answer, r.state, res)
+    let mut s = images::receiving::state_of(state);
+    let answer = receiver::receive(&mut s, pool, frame, place as usize, output);
+    answers::receiving::finish(state, answer, s, res)
 }

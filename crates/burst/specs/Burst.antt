@@ -3,6 +3,7 @@ use Rattle.std.specs.Prelude.{Bool, cond, not, ◌||◌, List, [], ◌∷◌, �
 use Rattle.std.proofs.Math.Option.{Option, none, some}
 use Rattle.octets.specs.Octets.{sum_of}
 use Rattle.pieces.specs.Pieces.{bundle_max}
+use Rattle.rows.specs.declared.State.{State}
 use Rattle.rows.specs.State.{sound}
 use Rattle.rows.specs.Message.{Draft, Board}
 use Rattle.messages.specs.declared.Limits.{Limits}
@@ -12,7 +13,6 @@ use Rattle.frames.specs.Frames.{frames_of, Reach, set_out, through}
 use Rattle.burst.specs.declared.Taken.{Taken}
 use Rattle.burst.specs.declared.Refusal.{Refusal}
 use Rattle.burst.specs.declared.Refusal.TheVariants.{Unsound, BufferSize, FrameCount, OctetCount, Misplaced}
-use Rattle.burst.specs.declared.Burst.{Burst}
 
 abbrev pub frames_max : ℕ
 frames_max = 64
@@ -51,8 +51,8 @@ pub record Reply : Type 0 where
   pub lists : Lists
 
 -- as the code answers it
-abbrev pub reply : Burst → List ℕ → Lists → Reply
-reply b pool l = record { answer = b.answer; board = record { state = b.state; pool = pool }; lists = l }
+abbrev pub reply : Result Taken Refusal → State → List ℕ → Lists → Reply
+reply answer state pool l = record { answer = answer; board = record { state = state; pool = pool }; lists = l }
 
 -- "bundles one behind another in the output with their lengths", and where the next call goes on
 abbrev pub taken : Reach → Reply

@@ -42,12 +42,6 @@ pub struct Taken {
     pub refused: usize,
 }
 
-#[derive(Clone, Copy)]
-pub struct Burst {
-    pub answer: Result<Taken, Refusal>,
-    pub state: State,
-}
-
 // The number of a refusal.
 impl From<Refusal> for u32 {
     ghost from_gives = { λ refusal n. n ≡ Spec.refusal_number refusal };
@@ -120,7 +114,7 @@ fn admit(
 // Takes frames, given by their lengths and their joined octets, from a frame and a place on, until all are taken, 256 bundles are out or
 // the output lacks room for one more.
 pub fn receive_burst(
-    state: State,
+    state: &mut State,
     pool: &mut [u8],
     sizes: &[u16],
     joined: &[u8],
@@ -131,21 +125,16 @@ pub fn receive_burst(
     numbers: &mut [u64; BUNDLES_MAX],
     places: &mut [u32; FRAMES_MAX],
     reasons: &mut [u32; FRAMES_MAX],
-) -> Burst
-    ensures { Spec.reply result pool.new (Spec.lists output.new lengths.new numbers.new places.new reasons.new)
-        ≡ Spec.receive_burst (draft_of state) (window_of state) (record { state = state; pool = pool.old }) sizes.now joined.now frame place
+) -> Result<Taken, Refusal>
+    ensures { Spec.reply result state.new pool.new (Spec.lists output.new lengths.new numbers.new places.new reasons.new)
+        ≡ Spec.receive_burst (draft_of state.old) (window_of state.old) (record { state = state.old; pool = pool.old }) sizes.now joined.now frame place
         (Spec.lists output.old lengths.old numbers.old places.old reasons.old) }
 {
     let frames = Frames {
         sizes,
         octets: joined,
     };
-    if let Err(refusal) = admit(&state, pool, frames, frame, place, output) {
-        return Burst {
-            answer: Err(refusal),
-            state,
-        };
-    }
+    admit(state, pool, frames, frame, place, output)?;
     let limits = Limits {
         messages: MESSAGES_LIMIT,
         bundles: BUNDLES_MAX,
@@ -168,14 +157,11 @@ pub fn receive_burst(
         limits,
     );
     let p = r.progress;
-    Burst {
-        answer: Ok(Taken {
-            bundles: p.count,
-            octets: p.used,
-            frame: r.frame as usize,
-            place: p.next,
-            refused: r.refused,
-        }),
-        state: r.state,
-    }
+    Ok(Taken {
+        bundles: p.count,
+        octets: p.used,
+        frame: r.frame as usize,
+        place: p.next,
+        refused: r.refused,
+    })
 }

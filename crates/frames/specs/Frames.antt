@@ -1,6 +1,7 @@
 -- Frames one after another, over the draft and the window size w: each is taken from its place on, or noted where it is refused
 -- (document 02, E1 and E3).
 use Rattle.std.specs.Prelude.{cond, List, [], ◌∷◌, ℕ, ◌+◌, length, take, drop, set, ltb}
+use Rattle.rows.specs.declared.State.{State}
 use Rattle.rows.specs.Message.{Draft, messages_from}
 use Rattle.messages.specs.declared.Limits.{Limits}
 use Rattle.messages.specs.declared.Progress.{Progress}
@@ -27,9 +28,9 @@ pub record Reach : Type 0 where
   pub frame : ℕ
 
 -- as the code answers it
-abbrev pub reached : Reached → List ℕ → List ℕ → List ℕ → List ℕ → List ℕ → List ℕ → Reach
-reached r pool output lengths numbers places reasons =
-    record { run = going r.state pool output lengths numbers r.progress; places = places; reasons = reasons; refused = r.refused; frame = r.frame }
+abbrev pub reached : Reached → State → List ℕ → List ℕ → List ℕ → List ℕ → List ℕ → List ℕ → Reach
+reached r state pool output lengths numbers places reasons =
+    record { run = going state pool output lengths numbers r.progress; places = places; reasons = reasons; refused = r.refused; frame = r.frame }
 
 -- none is refused yet
 abbrev pub set_out : Run → List ℕ → List ℕ → ℕ → Reach

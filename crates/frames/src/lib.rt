@@ -15,7 +15,6 @@ use rows::State;
 // How far the frames were taken: the frame to go on with, the place in it in the progress, and how many were refused.
 #[derive(Clone, Copy)]
 pub struct Reached {
-    pub state: State,
     pub progress: Progress,
     pub frame: u32,
     pub refused: usize,
@@ -32,7 +31,7 @@ fn note(places: &mut [u32], reasons: &mut [u32], at: usize, frame: u32, reason: 
 // Frames from the progress's place in the first one on, until a limit is reached or the output lacks room for a further bundle. `first` is
 // the first frame's place in the whole list.
 pub fn run_frames(
-    state: State,
+    state: &mut State,
     pool: &mut [u8],
     frames: wire::Frames,
     first: u32,
@@ -44,18 +43,17 @@ pub fn run_frames(
     reasons: &mut [u32],
     limits: Limits,
 ) -> Reached
-    requires { (Loop.Able state pool.old output.old from)
+    requires { (Loop.Able state.old pool.old output.old from)
         × (sum_of frames.sizes.now ≤ length frames.octets.now)
         × (first + length frames.sizes.now ≤ 65536) }
-    ensures { Frames.reached result pool.new output.new lengths.new numbers.new
+    ensures { Frames.reached result state.new pool.new output.new lengths.new numbers.new
         places.new reasons.new
-        ≡ Frames.through (draft_of state) (window_of state) limits
-        (Frames.set_out (Loop.going state pool.old output.old lengths.old numbers.old from)
+        ≡ Frames.through (draft_of state.old) (window_of state.old) limits
+        (Frames.set_out (Loop.going state.old pool.old output.old lengths.old numbers.old from)
         places.old reasons.old first)
         (frames_of frames.entry.sizes.now frames.entry.octets.now) }
 {
     let version = state.settings.version;
-    let mut now = state;
     let mut progress = from;
     let mut refused = 0;
     let mut frame = first;
@@ -70,9 +68,7 @@ pub fn run_frames(
             note(places, reasons, refused, frame, u32::from(refusal));
             refused += 1;
         } else {
-            let r = messages::run(now, pool, pdu, progress, output, lengths, numbers, limits);
-            now = r.state;
-            progress = r.progress;
+            progress = messages::run(state, pool, pdu, progress, output, lengths, numbers, limits);
             if progress.next < pdu.len() {
                 break;
             }
@@ -82,7 +78,6 @@ pub fn run_frames(
         at = end;
     }
     Reached {
-        state: now,
         progress,
         frame,
         refused,

@@ -57,55 +57,56 @@ fn show(rt: &impl Print, answer: Result<Answer, Refusal>, output: &[u8]) -> io::
 fn take_with(
     rt: &impl Print,
     name: &str,
-    state: State,
+    state: &mut State,
     pool: &mut [u8],
     frame: &[u8],
-) -> io::Result<State> {
+) -> io::Result<()> {
     let mut output = [0u8; 4096];
-    let received = receiver::receive(state, pool, frame, 0, &mut output);
+    let answer = receiver::receive(state, pool, frame, 0, &mut output);
     print!(rt; "{name}")?;
-    show(rt, received.answer, &output)?;
-    Ok(received.state)
+    show(rt, answer, &output)
 }
 
-fn take(rt: &impl Print, name: &str, state: State, frame: &[u8]) -> io::Result<State> {
+// By a fresh receiver.
+fn take(rt: &impl Print, name: &str, frame: &[u8]) -> io::Result<()> {
     let mut pool = [0u8; 32768];
-    take_with(rt, name, state, &mut pool, frame)
+    take_with(rt, name, &mut receiver::start(), &mut pool, frame)
 }
 
-fn behind(rt: &impl Print, state: State, pool: &mut [u8]) -> io::Result<()> {
-    let greatest = take_with(rt, "M13", state, pool, b"\x05\x00\x00\x04\x00\x00\x00\x03")?;
+fn behind(rt: &impl Print, state: &mut State, pool: &mut [u8]) -> io::Result<()> {
+    take_with(rt, "M13", state, pool, b"\x05\x00\x00\x04\x00\x00\x00\x03")?;
     take_with(
         rt,
         "M13",
-        greatest,
+        state,
         pool,
         b"\x04\x00\x00\x09\xff\xff\xff\xfa\x00\x00\x00\x00\x41",
-    )?;
-    Ok(())
+    )
 }
 
 fn main(rt: HostRuntime) -> io::Result<()> {
-    let fresh = receiver::start();
     let end = b"\x04\x00\x00\x09\x00\x00\x00\x05\x00\x00\x00\x00\x41";
-    take(&rt, "M1", fresh, b"\x02\x00\x00\x03\x41\x42\x43")?;
-    take(&rt, "M2", fresh, b"\x00\x00\x00")?;
-    take(&rt, "M3", fresh, b"\x01\x00\x00\x00")?;
-    take(&rt, "M4", fresh, end)?;
-    let cancelled = take(&rt, "M5", fresh, b"\x05\x00\x00\x04\x00\x00\x00\x05")?;
-    take(&rt, "M5", cancelled, end)?;
-    take(&rt, "M6", fresh, b"\x02\x80\x00\x05\x02\x01\xff\x41\x42")?;
-    take(&rt, "M7", fresh, b"\x02\x10\x00\x00")?;
-    take(&rt, "M8", fresh, b"\x02\x00\x00\x04\x41")?;
-    take(&rt, "M9", fresh, b"\x03\x00\x00")?;
-    take(&rt, "M10", fresh, b"\x02\x80\x00\x01\x02")?;
-    take(&rt, "M11", fresh, b"\x05\x00\x00\x03\x00\x00\x00")?;
-    take(&rt, "M12", fresh, b"\x00\x02\x00\x00\x00")?;
-    let Ok(wide) = receiver::start_as(Version::Draft02, 16) else {
+    let cancel = b"\x05\x00\x00\x04\x00\x00\x00\x05";
+    take(&rt, "M1", b"\x02\x00\x00\x03\x41\x42\x43")?;
+    take(&rt, "M2", b"\x00\x00\x00")?;
+    take(&rt, "M3", b"\x01\x00\x00\x00")?;
+    take(&rt, "M4", end)?;
+    let mut state = receiver::start();
+    let mut pool = [0u8; 32768];
+    take_with(&rt, "M5", &mut state, &mut pool, cancel)?;
+    take_with(&rt, "M5", &mut state, &mut pool, end)?;
+    take(&rt, "M6", b"\x02\x80\x00\x05\x02\x01\xff\x41\x42")?;
+    take(&rt, "M7", b"\x02\x10\x00\x00")?;
+    take(&rt, "M8", b"\x02\x00\x00\x04\x41")?;
+    take(&rt, "M9", b"\x03\x00\x00")?;
+    take(&rt, "M10", b"\x02\x80\x00\x01\x02")?;
+    take(&rt, "M11", b"\x05\x00\x00\x03\x00\x00\x00")?;
+    take(&rt, "M12", b"\x00\x02\x00\x00\x00")?;
+    let Ok(mut wide) = receiver::start_as(Version::Draft02, 16) else {
         return Ok(());
     };
-    let mut pool = [0u8; 65536];
-    behind(&rt, wide, &mut pool)?;
-    let mut small = [0u8; 32768];
-    behind(&rt, fresh, &mut small)
+    let mut wide_pool = [0u8; 65536];
+    behind(&rt, &mut wide, &mut wide_pool)?;
+    let mut plain_pool = [0u8; 32768];
+    behind(&rt, &mut receiver::start(), &mut plain_pool)
 }

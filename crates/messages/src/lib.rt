@@ -33,12 +33,6 @@ pub struct Limits {
     pub bundles: usize,
 }
 
-#[derive(Clone, Copy)]
-pub struct Ran {
-    pub progress: Progress,
-    pub state: State,
-}
-
 // A message with its content, for its row; a bundle goes to the front of `out`. (That the row has 64 entries is known only of a parameter.)
 fn row_turn(
     order: Order,
@@ -183,9 +177,14 @@ fn more(p: Progress, limits: Limits, frame: usize, output: usize) -> bool
     p.next < frame && roomy(p, limits, output)
 }
 
+// What its type says of a state. It is known of a parameter by value alone, and not of a state that is lent.
+fn typed(_state: State)
+    ensures { (length _state.rows ≡ 16) × (_state.greatest < 2 ^ 32) }
+{}
+
 // Goes on from a progress with the messages of a frame, until a limit is reached or the output lacks room for a further bundle.
 pub fn run(
-    state: State,
+    state: &mut State,
     pool: &mut [u8],
     frame: &[u8],
     from: Progress,
@@ -193,19 +192,17 @@ pub fn run(
     lengths: &mut [u16],
     numbers: &mut [u64],
     limits: Limits,
-) -> Ran
-    requires { (Loop.Able state pool.old output.old from)
+) -> Progress
+    requires { (Loop.Able state.old pool.old output.old from)
         × (length frame.now ≤ frame_max)
-        × (checked (draft_of state).read frame.now from.next ≡ Ok tt) }
-    ensures { (Loop.going result.state pool.new output.new lengths.new numbers.new result.progress
-        ≡ Loop.run_from limits (Loop.going state pool.old output.old lengths.old numbers.old from) frame.now)
-        × (Loop.Able result.state pool.new output.new result.progress) }
+        × (checked (draft_of state.old).read frame.now from.next ≡ Ok tt) }
+    ensures { (Loop.going state.new pool.new output.new lengths.new numbers.new result
+        ≡ Loop.run_from limits (Loop.going state.old pool.old output.old lengths.old numbers.old from) frame.now)
+        × (Loop.Able state.new pool.new output.new result) }
 {
+    typed(*state);
     let settings = state.settings;
     let version = settings.version;
-    let mut present = state.present;
-    let mut greatest = state.greatest;
-    let mut rows = state.rows;
     let mut progress = from;
     // The place of the next message is the loop's variable: no count, and no iterator knows where a message ends.
     while more(progress, limits, frame.len(), output.len()) {
@@ -220,31 +217,31 @@ pub fn run(
         let content = &frame[m.start..end];
         let window = Window {
             size: settings.window,
-            present,
-            greatest,
+            present: state.present,
+            greatest: state.greatest,
         };
         let v = rows::visit_of(window, m.kind, content);
         if 1 < v.entered {
-            rows = rows::freed(rows, window, v.entered);
+            state.rows = rows::freed(state.rows, window, v.entered);
         }
-        present = v.present;
-        greatest = v.greatest;
+        state.present = v.present;
+        state.greatest = v.greatest;
         let slot = v.slot;
         if 0 < v.entered {
-            rows[slot] = row::empty_row(Phase::Free);
+            state.rows[slot] = row::empty_row(Phase::Free);
         }
-        let t = cell_turn(version, rows[slot], v, pool, content, output, progress.used);
-        rows[slot] = t.row;
+        let t = cell_turn(
+            version,
+            state.rows[slot],
+            v,
+            pool,
+            content,
+            output,
+            progress.used,
+        );
+        state.rows[slot] = t.row;
         list_bundle(lengths, numbers, progress.count, t.delivery, v.origin);
         progress = progressed(progress, t.delivery, end, v.origin);
     }
-    Ran {
-        progress,
-        state: State {
-            present,
-            greatest,
-            rows,
-            settings,
-        },
-    }
+    progress
 }

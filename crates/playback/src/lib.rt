@@ -87,9 +87,9 @@ fn play_frames(
         messages: limit,
         bundles: BUNDLES_LIMIT,
     };
-    let state = receiver::start_as(Version::Draft02, WINDOW).unwrap();
+    let mut state = receiver::start_as(Version::Draft02, WINDOW).unwrap();
     frames::run_frames(
-        state,
+        &mut state,
         pool,
         frames,
         0,

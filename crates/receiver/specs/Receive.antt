@@ -13,7 +13,6 @@ use Rattle.receiver.specs.declared.Answer.{Answer}
 use Rattle.receiver.specs.declared.Answer.TheVariants.{Delivered, Finished}
 use Rattle.receiver.specs.declared.Refusal.{Refusal}
 use Rattle.receiver.specs.declared.Refusal.TheVariants.{Unsound, BufferSize, FrameSize, Malformed, Misplaced}
-use Rattle.receiver.specs.declared.Received.{Received}
 use Rattle.receiver.specs.declared.WrongWindow.{WrongWindow}
 use Rattle.rows.specs.declared.State.{State}
 use Rattle.rows.specs.State.{sound, window_of, fresh}
@@ -62,8 +61,8 @@ pub record Reply : Type 0 where
   pub output : List ℕ
 
 -- as the code answers it
-abbrev pub reply : Received → List ℕ → List ℕ → Reply
-reply r pool output = record { answer = r.answer; board = record { state = r.state; pool = pool }; output = output }
+abbrev pub reply : Result Answer Refusal → State → List ℕ → List ℕ → Reply
+reply answer state pool output = record { answer = answer; board = record { state = state; pool = pool }; output = output }
 
 -- refusals 4 to 9, from the check of the whole frame and of the place
 abbrev pub rejected : Rejection → Refusal

@@ -39,12 +39,6 @@ pub enum Answer {
     Finished,
 }
 
-#[derive(Clone, Copy)]
-pub struct Received {
-    pub answer: Result<Answer, Refusal>,
-    pub state: State,
-}
-
 // Refusal 21: a window that is not 4, 8 or 16.
 #[derive(Clone, Copy)]
 pub struct WrongWindow;
@@ -168,27 +162,22 @@ fn answer_of(p: Progress) -> Answer
 
 // Takes the messages of a frame from a place on, up to the first bundle handed out, which goes to the front of the output.
 pub fn receive(
-    state: State,
+    state: &mut State,
     pool: &mut [u8],
     frame: &[u8],
     place: usize,
     output: &mut [u8],
-) -> Received
-    ensures { Call.reply result pool.new output.new ≡ Call.receive (record { state = state; pool = pool.old }) frame.now place output.old }
+) -> Result<Answer, Refusal>
+    ensures { Call.reply result state.new pool.new output.new ≡ Call.receive (record { state = state.old; pool = pool.old }) frame.now place output.old }
 {
-    if let Err(refusal) = admit(&state, pool, frame, place, output) {
-        return Received {
-            answer: Err(refusal),
-            state,
-        };
-    }
+    admit(state, pool, frame, place, output)?;
     let limits = Limits {
         messages: FRAME_MAX,
         bundles: 1,
     };
     let mut lengths = [0u16; 1];
     let mut numbers = [0u64; 1];
-    let r = messages::run(
+    let progress = messages::run(
         state,
         pool,
         frame,
@@ -198,8 +187,5 @@ pub fn receive(
         &mut numbers,
         limits,
     );
-    Received {
-        answer: Ok(answer_of(r.progress)),
-        state: r.state,
-    }
+    Ok(answer_of(progress))
 }

@@ -21,14 +21,14 @@ use Rattle.frames.proofs.run_frames.Goals.{Else-not-roomy, After-admit_frame, in
 -- once the tests of the loop have passed
 module _ (c : Else-not-roomy) where
   abbrev now : Reach
-  now = let l = c.loop-size in record { run = going l.now l.pool l.output l.lengths l.numbers l.progress; places = l.places; reasons = l.reasons; refused = l.refused; frame = l.frame }
+  now = let l = c.loop-size in record { run = going l.state l.pool l.output l.lengths l.numbers l.progress; places = l.places; reasons = l.reasons; refused = l.refused; frame = l.frame }
 
   test : goes_on c.args.limits c.args.frames.sizes.now c.loop-size.size-index now ≡ true
   test = and _ _ (lt-ltb _ _ c.loop-size-test.true) (sym c.roomy.ensures ∙ c.if-not-roomy.false)
 
 module _ (c : After-admit_frame) where
   abbrev first : Reach
-  first = let a = c.args in set_out (going a.state a.pool.now a.output.now a.lengths.now a.numbers.now a.from) a.places.now a.reasons.now a.first
+  first = let a = c.args in set_out (going a.state.now a.pool.now a.output.now a.lengths.now a.numbers.now a.from) a.places.now a.reasons.now a.first
 
   abbrev pdu : List ℕ
   pdu = let l = c.loop-size in take (l.at + get_or c.args.frames.sizes.now l.size-index 0 - l.at) (drop l.at c.args.frames.octets.now)
@@ -43,9 +43,9 @@ module _ (c : After-admit_frame) where
 pub slice_bounds-pdu-end : goal.slice_bounds-pdu-end
 slice_bounds-pdu-end c = omega (arith, inside c.loop-size.invariant (test (goal.at.slice_bounds-pdu-end c).Else-not-roomy))
 
-pub run-r-requires : goal.run-r-requires
-run-r-requires c =
-    let g = goal.at.run-r-requires c in
+pub run-progress-requires : goal.run-progress-requires
+run-progress-requires c =
+    let g = goal.at.run-progress-requires c in
     let f = fits c.loop-size.invariant (test g.Else-not-roomy) 0 (taken g.After-admit_frame c.in_default.is) (omega arith) in
     (c.loop-size.invariant.able, f.small, f.accepted)
 
@@ -57,12 +57,12 @@ loop-size-preserved c =
       | in-Err w ↦
           let q = w.in-Err.refusal in
           let n : 0 < number_of (some q) = number-some q in
-          rw (w.now-is, w.pool-is, w.output-is, w.lengths-is, w.numbers-is, w.places-is, w.reasons-is, w.progress-is, w.refused-is, w.note.ensures.0, w.note.ensures.1, w.from.ensures)
+          rw (w.state-is, w.pool-is, w.output-is, w.lengths-is, w.numbers-is, w.places-is, w.reasons-is, w.progress-is, w.refused-is, w.note.ensures.0, w.note.ensures.1, w.from.ensures)
           (refuses P (test g.Else-not-roomy) (number_of (some q)) (sym (denied-for g.After-admit_frame q w.in-Err.is)) n)
       | in_default+else-progress-pdu w ↦
-          rw (w.now-is, w.pool-is, w.output-is, w.lengths-is, w.numbers-is, w.places-is, w.reasons-is, w.progress-is, w.refused-is)
-          (passes P (test g.Else-not-roomy) 0 (taken g.After-admit_frame w.in_default.is) (omega arith) _ w.run-r.ensures.0 (omega (arith, w.if-progress-pdu.false)) w.run-r.ensures.1
-          (record { pool = w.run-r.auto.pool; output = w.run-r.auto.output; lengths = w.run-r.auto.lengths; numbers = w.run-r.auto.numbers }))
+          rw (w.state-is, w.pool-is, w.output-is, w.lengths-is, w.numbers-is, w.places-is, w.reasons-is, w.progress-is, w.refused-is)
+          (passes P (test g.Else-not-roomy) 0 (taken g.After-admit_frame w.in_default.is) (omega arith) _ w.run-progress.ensures.0 (omega (arith, w.if-progress-pdu.false)) w.run-progress.ensures.1
+          (record { pool = w.run-progress.auto.pool; output = w.run-progress.auto.output; lengths = w.run-progress.auto.lengths; numbers = w.run-progress.auto.numbers }))
     ]
 
 pub returns-after-loop-size : goal.returns-after-loop-size
@@ -74,4 +74,4 @@ returns-then-not-roomy c = ends c.loop-size.invariant (rw (← c.roomy.ensures, 
 pub returns-then-progress-pdu : goal.returns-then-progress-pdu
 returns-then-progress-pdu c =
     let g = goal.at.returns-then-progress-pdu c in
-    stopped c.loop-size.invariant (test g.Else-not-roomy) 0 (taken g.After-admit_frame c.in_default.is) (omega arith) _ c.run-r.ensures.0 (omega (arith, c.if-progress-pdu.true))
+    stopped c.loop-size.invariant (test g.Else-not-roomy) 0 (taken g.After-admit_frame c.in_default.is) (omega arith) _ c.run-progress.ensures.0 (omega (arith, c.if-progress-pdu.true))

@@ -6,5 +6,5 @@ use Rattle.frames.proofs.run_frames.Given as goal
 
 abbrev pub invariant-loop-size : goal.invariant-loop-size
 invariant-loop-size l =
-    Passing l.limits l.frames.sizes.now l.frames.octets.now (set_out (going l.initial.now l.initial.pool l.initial.output l.initial.lengths l.initial.numbers l.initial.progress) l.initial.places l.initial.reasons l.first) l.size-index l.at
-    (record { run = going l.now l.pool l.output l.lengths l.numbers l.progress; places = l.places; reasons = l.reasons; refused = l.refused; frame = l.frame })
+    Passing l.limits l.frames.sizes.now l.frames.octets.now (set_out (going l.initial.state l.initial.pool l.initial.output l.initial.lengths l.initial.numbers l.initial.progress) l.initial.places l.initial.reasons l.first) l.size-index l.at
+    (record { run = going l.state l.pool l.output l.lengths l.numbers l.progress; places = l.places; reasons = l.reasons; refused = l.refused; frame = l.frame })

@@ -15,8 +15,9 @@ use Rattle.row.proofs.Shaped.{Shaped}
 use Rattle.reassembly.specs.Delivery.{Delivery}
 use Rattle.rows.specs.Message.{order_of}
 use Rattle.rows.specs.Origin.{Origin}
+use Rattle.rows.specs.declared.State.{State}
 use Rattle.rows.specs.declared.Visit.{Visit}
-use Rattle.rows.proofs.Rows.{length_mapped, get_or_any, sound-window}
+use Rattle.rows.proofs.Rows.{get_or_any, sound-window}
 use Rattle.messages.specs.Run.{progressed, size, Run, going}
 use Rattle.messages.specs.declared.Progress.{Progress}
 use Rattle.messages.proofs.Looping.{progressed-next, begins, ends, some_left, never_bad, passed, turned, v, at<, treated<, count<, room, place, slot<, fits, admit, found-sound, handed-fits, win, Turn}
@@ -31,10 +32,10 @@ use Rattle.messages.proofs.run.Goals.{In-Ok, Joined-v-gt1, Joined-v-gt0, After-c
 
 module _ (c : In-Ok) where
   abbrev first : Run
-  first = let a = c.args in going a.state a.pool.now a.output.now a.lengths.now a.numbers.now a.from
+  first = let a = c.args in going a.state.now a.pool.now a.output.now a.lengths.now a.numbers.now a.from
 
   abbrev now : Run
-  now = let l = c.loop-limits in going (record { present = l.present; greatest = l.greatest; rows = l.rows; settings = c.args.state.settings }) l.pool l.output l.lengths l.numbers l.progress
+  now = let l = c.loop-limits in going l.state l.pool l.output l.lengths l.numbers l.progress
 
   abbrev turn : Turn c.args.limits c.args.frame.now first now
   turn = record {
@@ -85,28 +86,37 @@ module _ {limits : Limits} {frame : List ℕ} {p₀ p : Run} (t : Turn limits fr
     row_is : get_or rows x.slot d ≡ visited w order p.board (v t)
     row_is = row-found ∙ ap (λ (rs : List Row). get_or rs x.slot (empty_row Free)) er ∙ ap (visited w order p.board) e
 
-joined2 : (c : Joined-v-gt1) → c.if-v-gt1.rows ≡ cleared c.args.state.settings.window c.loop-limits.greatest c.visit_of-v.result.entered c.loop-limits.rows
+-- a state with other rows, and one that a visit moves
+abbrev with_rows : State → List Row → State
+with_rows s rows = record { present = s.present; greatest = s.greatest; rows = rows; settings = s.settings }
+
+abbrev moved : State → Visit → List Row → State
+moved s x rows = record { present = x.present; greatest = x.greatest; rows = rows; settings = s.settings }
+
+joined2 : (c : Joined-v-gt1) → let s = c.loop-limits.state in
+    c.if-v-gt1.state ≡ with_rows s (cleared c.args.state.now.settings.window s.greatest c.visit_of-v.result.entered s.rows)
 joined2 c =
-    let l = c.loop-limits in
+    let s = c.loop-limits.state in
     let d = c.visit_of-v.result.entered in
-    let n = c.args.state.settings.window in
+    let n = c.args.state.now.settings.window in
     elim c.if-v-gt1.branch [
-      | then-v-gt1 w ↦ w.rows-is ∙ w.freed-rows.ensures ∙ cleared-some n l.greatest d l.rows w.if-v-gt1.true
-      | else-v-gt1 w ↦ w.rows-is ∙ cleared-none n l.greatest d l.rows w.if-v-gt1.false
+      | then-v-gt1 w ↦ w.state-is ∙ ap (with_rows s) (w.freed-state.ensures ∙ cleared-some n s.greatest d s.rows w.if-v-gt1.true)
+      | else-v-gt1 w ↦ w.state-is ∙ ap (with_rows s) (cleared-none n s.greatest d s.rows w.if-v-gt1.false)
     ]
 
-joined3 : (c : Joined-v-gt0) → let s = c.args.state.settings in
-    c.if-v-gt1.rows ≡ cleared s.window c.loop-limits.greatest c.visit_of-v.result.entered c.loop-limits.rows
-    → c.if-v-gt0.rows ≡ rows_for s.window (order_of s.version) (going (record { present = c.loop-limits.present; greatest = c.loop-limits.greatest; rows = c.loop-limits.rows; settings = s }) c.loop-limits.pool c.loop-limits.output c.loop-limits.lengths c.loop-limits.numbers c.loop-limits.progress).board c.visit_of-v.result
+joined3 : (c : Joined-v-gt0) → let s = c.loop-limits.state in let t = c.args.state.now.settings in let x = c.visit_of-v.result in
+    c.if-v-gt1.state ≡ with_rows s (cleared t.window s.greatest x.entered s.rows)
+    → c.if-v-gt0.state ≡ moved s x (rows_for t.window (order_of t.version) (record { state = s; pool = c.loop-limits.pool }) x)
 joined3 c e =
-    let rows = c.if-v-gt1.rows in
+    let s = c.loop-limits.state in
+    let rows = c.if-v-gt1.state.rows in
     let x = c.visit_of-v.result in
-    let made : c.if-v-gt0.rows ≡ opened x.slot x.entered rows =
+    let at_last : moved c.if-v-gt1.state x (opened x.slot x.entered rows) ≡ moved s x (opened x.slot x.entered (cleared c.args.state.now.settings.window s.greatest x.entered s.rows)) =
+    ap (λ (y : State). moved y x (opened x.slot x.entered y.rows)) e in
     elim c.if-v-gt0.branch [
-      | then-v-gt0 w ↦ w.rows-is ∙ ap (set rows x.slot) w.empty_row.ensures ∙ opened_some x.slot x.entered rows w.if-v-gt0.true
-      | else-v-gt0 w ↦ w.rows-is ∙ opened-none x.slot x.entered rows w.if-v-gt0.false
-    ] in
-    made ∙ ap (opened x.slot x.entered) e
+      | then-v-gt0 w ↦ w.state-is ∙ ap (moved c.if-v-gt1.state x) (ap (set rows x.slot) w.empty_row.ensures ∙ opened_some x.slot x.entered rows w.if-v-gt0.true) ∙ at_last
+      | else-v-gt0 w ↦ w.state-is ∙ ap (moved c.if-v-gt1.state x) (opened-none x.slot x.entered rows w.if-v-gt0.false) ∙ at_last
+    ]
 
 abbrev vacant : Row
 vacant = record { phase = Free; known = false; last = 0; held = 0; indexes = []; lengths = [] }
@@ -115,10 +125,8 @@ vacant = record { phase = Free; known = false; last = 0; held = 0; indexes = [];
 
 pub loop-limits-init : goal.loop-limits-init
 loop-limits-init c =
-    let full : length c.args.state.rows ≡ 16 = search (rules, length_mapped) in
-    let low : c.args.state.greatest < 2 ^ 32 = search rules in
-    let range = window_range _ (sound-window c.args.state c.requires.0.sound) in
-    begins c.args.limits c.args.frame.now _ c.requires.0 c.requires.2 (omega (arith, range, full)) low
+    let range = window_range _ (sound-window c.args.state.now c.requires.0.sound) in
+    begins c.args.limits c.args.frame.now _ c.requires.0 c.requires.2 (omega (arith, range, c.typed.ensures.0)) c.typed.ensures.1
 
 pub more-requires : goal.more-requires
 more-requires c = let g = c.loop-limits.invariant in omega (arith, g.output, g.used)
@@ -150,34 +158,35 @@ invariant_of-window c = record { sized = is_window_lem _ (win (turn (goal.at.inv
 pub visit_of-v-requires : goal.visit_of-v-requires
 visit_of-v-requires c = fits (turn (goal.at.visit_of-v-requires c).In-Ok)
 
-pub offset_bounds-rows-slot : goal.offset_bounds-rows-slot
-offset_bounds-rows-slot c = omega (arith, slot-below (turn (goal.at.offset_bounds-rows-slot c).In-Ok) _ c.visit_of-v.ensures)
+pub offset_bounds-state-slot : goal.offset_bounds-state-slot
+offset_bounds-state-slot c = omega (arith, slot-below (turn (goal.at.offset_bounds-state-slot c).In-Ok) _ c.visit_of-v.ensures)
 
-pub bounds-rows-slot : goal.bounds-rows-slot
-bounds-rows-slot c = slot-below (turn (goal.at.bounds-rows-slot c).In-Ok) _ c.visit_of-v.ensures
+pub bounds-state-slot : goal.bounds-state-slot
+bounds-state-slot c = slot-below (turn (goal.at.bounds-state-slot c).In-Ok) _ c.visit_of-v.ensures
 
-pub offset_bounds-rows-slot-in-loop-limits : goal.offset_bounds-rows-slot-in-loop-limits
-offset_bounds-rows-slot-in-loop-limits c = omega (arith, slot-below (turn (goal.at.offset_bounds-rows-slot-in-loop-limits c).In-Ok) _ c.visit_of-v.ensures)
+pub offset_bounds-state-slot-in-loop-limits : goal.offset_bounds-state-slot-in-loop-limits
+offset_bounds-state-slot-in-loop-limits c = omega (arith, slot-below (turn (goal.at.offset_bounds-state-slot-in-loop-limits c).In-Ok) _ c.visit_of-v.ensures)
 
-pub bounds-rows-slot-in-loop-limits : goal.bounds-rows-slot-in-loop-limits
-bounds-rows-slot-in-loop-limits c = slot-below (turn (goal.at.bounds-rows-slot-in-loop-limits c).In-Ok) _ c.visit_of-v.ensures
+pub bounds-state-slot-in-loop-limits : goal.bounds-state-slot-in-loop-limits
+bounds-state-slot-in-loop-limits c = slot-below (turn (goal.at.bounds-state-slot-in-loop-limits c).In-Ok) _ c.visit_of-v.ensures
 
 pub cell_turn-t-requires : goal.cell_turn-t-requires
 cell_turn-t-requires c =
     let h = (goal.at.cell_turn-t-requires c).In-Ok in
     let t = turn h in
     let e = c.visit_of-v.ensures in
-    let er = joined3 (goal.at.cell_turn-t-requires c).Joined-v-gt0 (joined2 (goal.at.cell_turn-t-requires c).Joined-v-gt1) in
-    (rw (row_is t _ e c.if-v-gt0.rows er vacant) (found-sound t), rw e (admit t (small h)), cell-within c.args.state.settings.window c.loop-limits.pool c.loop-limits.invariant.ready.pool c.visit_of-v.result.slot (slot-in t _ e), room t)
+    let es = joined3 (goal.at.cell_turn-t-requires c).Joined-v-gt0 (joined2 (goal.at.cell_turn-t-requires c).Joined-v-gt1) in
+    let er = ap (λ (s : State). s.rows) es in
+    (rw (row_is t _ e c.if-v-gt0.state.rows er vacant) (found-sound t), rw e (admit t (small h)), cell-within c.args.state.now.settings.window c.loop-limits.pool c.loop-limits.invariant.ready.pool c.visit_of-v.result.slot (slot-in t _ e), room t)
 
-pub offset_bounds-rows-slot-in-loop-limits-2 : goal.offset_bounds-rows-slot-in-loop-limits-2
-offset_bounds-rows-slot-in-loop-limits-2 c = omega (arith, slot-below (turn (goal.at.offset_bounds-rows-slot-in-loop-limits-2 c).In-Ok) _ c.visit_of-v.ensures)
+pub offset_bounds-state-slot-in-loop-limits-2 : goal.offset_bounds-state-slot-in-loop-limits-2
+offset_bounds-state-slot-in-loop-limits-2 c = omega (arith, slot-below (turn (goal.at.offset_bounds-state-slot-in-loop-limits-2 c).In-Ok) _ c.visit_of-v.ensures)
 
-pub bounds-rows-slot-in-loop-limits-2 : goal.bounds-rows-slot-in-loop-limits-2
-bounds-rows-slot-in-loop-limits-2 c = slot-below (turn (goal.at.bounds-rows-slot-in-loop-limits-2 c).In-Ok) _ c.visit_of-v.ensures
+pub bounds-state-slot-in-loop-limits-2 : goal.bounds-state-slot-in-loop-limits-2
+bounds-state-slot-in-loop-limits-2 c = slot-below (turn (goal.at.bounds-state-slot-in-loop-limits-2 c).In-Ok) _ c.visit_of-v.ensures
 
 -- the row has 64 entries, and what it hands out is no longer than a bundle
-shaped : (c : After-cell_turn-t) → Shaped (get_or c.if-v-gt0.rows c.visit_of-v.result.slot vacant)
+shaped : (c : After-cell_turn-t) → Shaped (get_or c.if-v-gt0.state.rows c.visit_of-v.result.slot vacant)
 shaped c = record { indexes64 = c.cell_turn-t.ensures.1; lengths64 = c.cell_turn-t.ensures.2 }
 
 pub list_bundle-requires : goal.list_bundle-requires
@@ -185,8 +194,9 @@ list_bundle-requires c =
     let h = (goal.at.list_bundle-requires c).In-Ok in
     let t = turn h in
     let e = c.visit_of-v.ensures in
-    let er = joined3 (goal.at.list_bundle-requires c).Joined-v-gt0 (joined2 (goal.at.list_bundle-requires c).Joined-v-gt1) in
-    handed-fits t (small h) c.visit_of-v.result e _ (row_is t _ e c.if-v-gt0.rows er vacant) (shaped (goal.at.list_bundle-requires c).After-cell_turn-t) c.cell_turn-t.result _ _ c.cell_turn-t.ensures.0
+    let es = joined3 (goal.at.list_bundle-requires c).Joined-v-gt0 (joined2 (goal.at.list_bundle-requires c).Joined-v-gt1) in
+    let er = ap (λ (s : State). s.rows) es in
+    handed-fits t (small h) c.visit_of-v.result e _ (row_is t _ e c.if-v-gt0.state.rows er vacant) (shaped (goal.at.list_bundle-requires c).After-cell_turn-t) c.cell_turn-t.result _ _ c.cell_turn-t.ensures.0
 
 pub progressed-progress-requires-in-loop-limits : goal.progressed-progress-requires-in-loop-limits
 progressed-progress-requires-in-loop-limits c =
@@ -194,9 +204,10 @@ progressed-progress-requires-in-loop-limits c =
     let h = g.In-Ok in
     let t = turn h in
     let e = c.visit_of-v.ensures in
-    let er = joined3 g.Joined-v-gt0 (joined2 g.Joined-v-gt1) in
+    let es = joined3 g.Joined-v-gt0 (joined2 g.Joined-v-gt1) in
+    let er = ap (λ (s : State). s.rows) es in
     delivered h c.cell_turn-t.result.delivery
-    (handed-fits t (small h) c.visit_of-v.result e _ (row_is t _ e c.if-v-gt0.rows er vacant) (shaped g.After-cell_turn-t) c.cell_turn-t.result _ _ c.cell_turn-t.ensures.0)
+    (handed-fits t (small h) c.visit_of-v.result e _ (row_is t _ e c.if-v-gt0.state.rows er vacant) (shaped g.After-cell_turn-t) c.cell_turn-t.result _ _ c.cell_turn-t.ensures.0)
 
 pub loop-limits-smaller : goal.loop-limits-smaller
 loop-limits-smaller c =
@@ -208,16 +219,18 @@ loop-limits-preserved c =
     let h = g.In-Ok in
     let t = turn h in
     let e = c.visit_of-v.ensures in
-    let er = joined3 g.Joined-v-gt0 (joined2 g.Joined-v-gt1) in
+    let es = joined3 g.Joined-v-gt0 (joined2 g.Joined-v-gt1) in
+    let er = ap (λ (s : State). s.rows) es in
     let low : c.visit_of-v.result.greatest < 2 ^ 32 = search rules in
-    turned t (small h) c.visit_of-v.result e c.if-v-gt0.rows er _ (row-found t _ e c.if-v-gt0.rows er vacant) (shaped g.After-cell_turn-t) low
-    c.cell_turn-t.result _ _ c.cell_turn-t.ensures.0 _ c.list_bundle.ensures.0 _ c.list_bundle.ensures.1 c.progressed-progress-in-loop-limits.result c.progressed-progress-in-loop-limits.ensures
+    rw (ap (λ (s : State). s.present) es, ap (λ (s : State). s.greatest) es, ap (λ (s : State). s.settings) es)
+    (turned t (small h) c.visit_of-v.result e c.if-v-gt0.state.rows er _ (row-found t _ e c.if-v-gt0.state.rows er vacant) (shaped g.After-cell_turn-t) low
+    c.cell_turn-t.result _ _ c.cell_turn-t.ensures.0 _ c.list_bundle.ensures.0 _ c.list_bundle.ensures.1 c.progressed-progress-in-loop-limits.result c.progressed-progress-in-loop-limits.ensures)
 
 -- the loop is left where its test fails; no message is bad
 pub returns-after-loop-limits : goal.returns-after-loop-limits
 returns-after-loop-limits c =
     let g = c.loop-limits.invariant in
-    (ends g (sym c.more.ensures ∙ c.loop-limits-test.false), record { sound = g.ready.sound; pooled = g.ready.pool; used = omega (arith, g.used, g.output) })
+    (ends g (sym c.more.ensures ∙ c.loop-limits-test.false), record { sound = g.ready.sound; pooled = rw g.ready.window g.ready.pool; used = omega (arith, g.used, g.output) })
 
 pub returns-in_default : goal.returns-in_default
 returns-in_default c = never_bad c.loop-limits.invariant (sym c.more.ensures ∙ c.loop-limits-test.true) _ (sym c.read_message.ensures ∙ c.in_default.is)

@@ -4,6 +4,7 @@ use mathlib.Core.Path.{◌≡◌, sym, ap, ◌∙◌}
 use Prim.Native.Nat.{ℕ}
 use native.Mathlib.Omega.{arith}
 use Rattle.std.proofs.Common.{None}
+use Rattle.std.proofs.lemmas.Result.{err_from_is_err_and}
 use Rattle.wire.proofs.Spans.{sized}
 use Rattle.rows.specs.State.{window_of}
 use Rattle.rows.specs.Message.{draft_of, Board, messages_from}
@@ -16,7 +17,7 @@ use Rattle.rows.specs.declared.State.{State}
 use mathlib.Core.List.{List}
 use Prim.Native.Nat.{ℕ}
 use Rattle.receiver.proofs.receive.Goals as goal
-use Rattle.receiver.proofs.receive.Goals.{In_default}
+use Rattle.receiver.proofs.receive.Goals.{In_ok-admit}
 
 module _ (s : State) (pool : List ℕ) where
   abbrev board : Board
@@ -26,31 +27,34 @@ module _ (s : State) (pool : List ℕ) where
   asked frame place output = refusal (draft_of s) (window_of s) board frame place output
 
 -- a call that is not refused
-module _ (c : In_default) where
-  none-applies : (let a = c.args in asked a.state a.pool.now a.frame.now a.place a.output.now) ≡ none
-  none-applies = let a = c.args in admitted (asked a.state a.pool.now a.frame.now a.place a.output.now) (sym c.admit.ensures ∙ c.in_default.is)
+module _ (c : In_ok-admit) where
+  none-applies : (let a = c.args in asked a.state.now a.pool.now a.frame.now a.place a.output.now) ≡ none
+  none-applies = let a = c.args in admitted (asked a.state.now a.pool.now a.frame.now a.place a.output.now) (sym c.admit.ensures ∙ c.in_ok-admit.was)
 
-  admitting : let a = c.args in Admits (draft_of a.state) (window_of a.state) (board a.state a.pool.now) a.frame.now a.place a.output.now
-  admitting = let a = c.args in admits (draft_of a.state) (window_of a.state) (board a.state a.pool.now) a.frame.now a.place a.output.now none-applies
+  admitting : let a = c.args in Admits (draft_of a.state.now) (window_of a.state.now) (board a.state.now a.pool.now) a.frame.now a.place a.output.now
+  admitting = let a = c.args in admits (draft_of a.state.now) (window_of a.state.now) (board a.state.now a.pool.now) a.frame.now a.place a.output.now none-applies
 
-pub returns-in-Err : goal.returns-in-Err
-returns-in-Err c =
+pub returns-in_err-admit : goal.returns-in_err-admit
+returns-in_err-admit c =
     let a = c.args in
-    sym (refused (draft_of a.state) (window_of a.state) (board a.state a.pool.now) a.frame.now a.place a.output.now _ (denied (asked a.state a.pool.now a.frame.now a.place a.output.now) _ (sym c.admit.ensures ∙ c.in-Err.is)))
+    let p = err_from_is_err_and c.from_residual.result c.from_residual.ensures.1 in
+    rw (p.1, p.2)
+    (sym (refused (draft_of a.state.now) (window_of a.state.now) (board a.state.now a.pool.now) a.frame.now a.place a.output.now _
+    (denied (asked a.state.now a.pool.now a.frame.now a.place a.output.now) _ (sym c.admit.ensures ∙ c.in_err-admit.was))))
 
-pub run-r-requires : goal.run-r-requires
-run-r-requires c =
-    let f = admitting (goal.at.run-r-requires c).In_default in
+pub run-progress-requires : goal.run-progress-requires
+run-progress-requires c =
+    let f = admitting (goal.at.run-progress-requires c).In_ok-admit in
     rw c.begun.ensures (record { sound = f.state; pooled = f.pool; used = omega arith }, f.frame-fit.small, f.frame-fit.accepted)
 
 pub returns : goal.returns
 returns c =
     let a = c.args in
-    let D = draft_of a.state in
-    let w = window_of a.state in
-    let b = board a.state a.pool.now in
-    let f = admitting (goal.at.returns c).In_default in
+    let D = draft_of a.state.now in
+    let w = window_of a.state.now in
+    let b = board a.state.now a.pool.now in
+    let f = admitting (goal.at.returns c).In_ok-admit in
     rw c.answer_of.ensures
-    (ap reply_of (rw c.begun.ensures at c.run-r.ensures.0)
-    ∙ one-bundle D w _ _ _ 0 b (messages_from D a.frame.now a.place) a.output.now a.place None f.room (omega (arith, few_messages D (sized a.state.settings.version) a.frame.now a.place f.frame-fit.accepted, f.frame-fit.small))
-    ∙ sym (treated D w b a.frame.now a.place a.output.now (none-applies (goal.at.returns c).In_default)))
+    (ap reply_of (rw c.begun.ensures at c.run-progress.ensures.0)
+    ∙ one-bundle D w _ _ _ 0 b (messages_from D a.frame.now a.place) a.output.now a.place None f.room (omega (arith, few_messages D (sized a.state.now.settings.version) a.frame.now a.place f.frame-fit.accepted, f.frame-fit.small))
+    ∙ sym (treated D w b a.frame.now a.place a.output.now (none-applies (goal.at.returns c).In_ok-admit)))

@@ -12,4 +12,4 @@ returns c =
     let a = c.args in
     image-taken a.state.now a.pool.now a.sizes.now a.joined.now a.frame a.place
     (lists a.output.now a.lengths.now a.numbers.now a.places.now a.reasons.now) a.res.now
-    (sym c.is_image.ensures ∙ c.if-not-is_image.false) _ c.state_of-s.ensures c.receive_burst-r.result _ _ c.receive_burst-r.ensures _ _ _ c.finish.ensures.0 c.finish.ensures.1 c.finish.ensures.2
+    (sym c.is_image.ensures ∙ c.if-not-is_image.false) _ c.state_of-s.ensures c.receive_burst-answer.result _ _ _ c.receive_burst-answer.ensures _ _ _ c.finish.ensures.0 c.finish.ensures.1 c.finish.ensures.2
