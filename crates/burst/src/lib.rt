@@ -69,7 +69,7 @@ fn misplaced(version: Version, frames: Frames, frame: usize, place: usize) -> bo
     let end = start + frames.sizes[frame] as usize;
     match receiver::admit_frame(version, &frames.octets[start..end], place) {
         Ok(()) => false,
-        Err(refusal) => u32::from(refusal) == 9,
+        Err(refusal) => matches!(refusal, receiver::Refusal::Misplaced),
     }
 }
 

@@ -1,13 +1,18 @@
 -- `burst::misplaced` meets its contract.
-use mathlib.Core.Path.{◌≡◌, sym, ap, ◌∙◌}
+use mathlib.Core.Path.{◌≡◌, refl, sym, ap, ◌∙◌}
+use mathlib.Core.Bool.{false}
 use mathlib.Core.List.{List}
+use lib.Dec.{eqb}
+use Rattle.wire.specs.declared.Fault.TheVariants.{ShortHeader, PastFrame, PastMessage, BadContent}
+use Rattle.receiver.specs.declared.Refusal.{Refusal}
+use Rattle.receiver.specs.declared.Refusal.TheVariants.{Unsound, BufferSize, FrameSize, Malformed, Misplaced}
 use Prim.Native.Nat.{ℕ, ◌+◌, ◌≤◌, ◌<◌}
 use native.Mathlib.Omega.{arith}
 use lib.ListN.{length, get_or, take, drop}
 use Rattle.rows.specs.Message.{draft}
 use Rattle.octets.specs.Admission.{admission}
 use Rattle.octets.proofs.Admitting.{denied, admitted}
-use Rattle.receiver.specs.Receive.{unfit}
+use Rattle.receiver.specs.Receive.{refusal_number, unfit}
 use Rattle.octets.specs.Octets.{sum_of}
 use Rattle.burst.specs.Burst.{misplaced_in}
 use Rattle.burst.proofs.Starts.{part, none-behind, frame_at, within}
@@ -32,6 +37,17 @@ overflow_add-end c = omega (arith, fits (goal.at.overflow_add-end c).After-sum_o
 pub slice_bounds-admit_frame-end : goal.slice_bounds-admit_frame-end
 slice_bounds-admit_frame-end c = omega (arith, fits (goal.at.slice_bounds-admit_frame-end c).After-sum_of-start)
 
+-- no other refusal has the number 9
+other : (r : Refusal) → (r ≡ Misplaced → ⊥) → false ≡ eqb (refusal_number r) 9
+other Unsound n = refl
+other BufferSize n = refl
+other FrameSize n = refl
+other (Malformed ShortHeader at) n = refl
+other (Malformed PastFrame at) n = refl
+other (Malformed PastMessage at) n = refl
+other (Malformed BadContent at) n = refl
+other Misplaced n = absurd (n refl)
+
 -- the frame's refusal
 asked : (c : After-admit_frame) → c.admit_frame.result ≡ admission (unfit (draft c.args.version) (take (get_or c.args.frames.sizes.now c.args.frame 0) (drop (sum_of (take c.args.frame c.args.frames.sizes.now)) c.args.frames.octets.now)) c.args.place)
 asked c =
@@ -46,9 +62,16 @@ returns-in-Ok c =
     let g = goal.at.returns-in-Ok c in
     rw (frame_at a.frame a.frames.sizes.now a.frames.octets.now (below g.After-sum_of-start), admitted _ (sym (asked g.After-admit_frame) ∙ c.in-Ok.is))
 
-pub returns-in-Err : goal.returns-in-Err
+pub returns-in-Misplaced : goal.returns-in-Misplaced
 unfolding misplaced_in
-returns-in-Err c =
+returns-in-Misplaced c =
     let a = c.args in
-    let g = goal.at.returns-in-Err c in
-    rw (frame_at a.frame a.frames.sizes.now a.frames.octets.now (below g.After-sum_of-start), denied _ _ (sym (asked g.After-admit_frame) ∙ c.in-Err.is), c.from.ensures)
+    let g = goal.at.returns-in-Misplaced c in
+    rw (frame_at a.frame a.frames.sizes.now a.frames.octets.now (below g.After-sum_of-start), denied _ _ (sym (asked g.After-admit_frame) ∙ c.in-Err.is), c.in-Misplaced.is)
+
+pub returns-in_default : goal.returns-in_default
+unfolding misplaced_in
+returns-in_default c =
+    let a = c.args in
+    let g = goal.at.returns-in_default c in
+    rw (frame_at a.frame a.frames.sizes.now a.frames.octets.now (below g.After-sum_of-start), denied _ _ (sym (asked g.After-admit_frame) ∙ c.in-Err.is)) (other _ c.in_default.not-Misplaced)
