@@ -1,5 +1,5 @@
 -- The rows of a state: those that a new number frees, and their soundness.
-use mathlib.Core.Bool.{Bool, true, false, cond, ◌&&◌, ◌||◌, and-true, and-false, and_assoc, false≢true}
+use mathlib.Core.Bool.{Bool, true, false, cond, ◌&&◌, ◌||◌, and-false, false≢true}
 use mathlib.Core.List.{List, [], ◌∷◌, map}
 use mathlib.Core.Logic.{◌⊎◌, inl, inr}
 use mathlib.Core.Path.{◌≡◌, refl, sym, ap, ◌∙◌}
@@ -8,9 +8,10 @@ use native.Mathlib.Nat.{add-zero}
 use native.Mathlib.Numerals.{add-one}
 use native.Mathlib.Omega.{arith}
 use lib.Dec.{eqb, ltb}
-use lib.ListN.{length, get_or, drop, set, length-set, length-map, drop_of_length-le}
-use lib.Seq.{drop-cons, ext_get_or, get_or-set_same, get_or-set_other, set-get_or}
+use lib.ListN.{length, get_or, set, length-set, length-map}
+use lib.Seq.{ext_get_or, get_or-set_same, get_or-set_other, set-get_or}
 use borrow.Author.Tests.{eqb-true, eqb-false, ltb-true, ltb-false, lt-ltb, le-ltb}
+use Rattle.std.specs.List.{list_all, enumerate_from}
 use Rattle.octets.proofs.Flags.{bool, and, both, or_left, or_right, cond_elim}
 use Rattle.window.specs.Window.{Window, is_window, row_of, ahead, enters}
 use Rattle.window.proofs.Sizes.{window_of_lem}
@@ -37,17 +38,13 @@ get_or_any (x ∷ xs) (suc i) y z h = get_or_any xs i y z (omega arith)
 
 -- ---- soundness, row by row
 
-module _ (all s : Bool) (w : ℕ) (present : Bool) (rows : List Row) (k : ℕ) where
-  pub sound-turn : (z : Row) → k < length rows → all ≡ (s && sound_from w k present (drop k rows))
-      → all ≡ ((s && sound_in (present && ltb k w) (get_or rows k z)) && sound_from w (k + 1) present (drop (k + 1) rows))
-  unfolding sound_from
-  sound-turn z h e = e ∙ rw (drop-cons rows k z h, add-one k) (sym (and_assoc s (sound_in (present && ltb k w) (get_or rows k z)) (sound_from w (suc k) present (drop (suc k) rows))))
-
-  pub sound-end : length rows ≤ k → all ≡ (s && sound_from w k present (drop k rows)) → s ≡ all
-  unfolding sound_from
-  sound-end h e = sym (e ∙ rw (drop_of_length-le rows {i = k} h) (and-true s))
-
 module _ (w : ℕ) (present : Bool) where
+  -- a test of each row with its number
+  pub sound_all : (r : ℕ) (rows : List Row) → list_all (λ (p : ℕ × Row). sound_in (present && ltb p.0 w) p.1) (enumerate_from r rows) ≡ sound_from w r present rows
+  unfolding sound_from
+  sound_all r [] = refl
+  sound_all r (x ∷ xs) = rw (add-one r, sound_all (suc r) xs)
+
   pub sound-get : (r : ℕ) (rows : List Row) (k : ℕ) (z : Row) → k < length rows → sound_from w r present rows ≡ true → sound_in (present && ltb (r + k) w) (get_or rows k z) ≡ true
   unfolding sound_from
   sound-get r [] k z h s = absurd (omega arith)

@@ -69,7 +69,7 @@ pub fn order_of(version: Version) -> Order
 fn sound_in(row: Row, present: bool) -> bool
     ensures { result ≡ Spec.sound_in present row }
 {
-    row::sound_row(row) & (present | matches!(row.phase, Phase::Free))
+    row::sound_row(row) && (present || matches!(row.phase, Phase::Free))
 }
 
 pub fn is_sound(state: &State) -> bool
@@ -77,11 +77,10 @@ pub fn is_sound(state: &State) -> bool
 {
     let window = state.settings.window;
     let present = state.present;
-    let mut sound = window::is_window(window) & (present | (state.greatest == 0));
-    for (k, row) in state.rows.iter().enumerate() {
-        sound &= sound_in(*row, present & (k < window as usize));
-    }
-    sound
+    let mut rows = state.rows.iter().enumerate();
+    window::is_window(window)
+        && (present || state.greatest == 0)
+        && rows.all(|(k, row)| sound_in(*row, present && k < window as usize))
 }
 
 // The rows of the numbers that entered, so many after the greatest, become free.
