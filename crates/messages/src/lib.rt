@@ -4,14 +4,13 @@
 ghost use Rattle.std.specs.Prelude.{◌≡◌, true, ◌&&◌, ◌+◌, ◌*◌, ◌≤◌, ◌<◌, ◌^◌, length, set, ltb, List};
 ghost use Rattle.wire.specs.Frame.{checked, frame_max};
 ghost use Rattle.pieces.specs.Pieces.{bundle_max};
-ghost use Rattle.row.specs.Row.{sound_row};
 ghost use Rattle.reassembly.specs.Rules.{Answers};
 ghost use Rattle.rows.specs.Message.{order_of, draft_of, cell_at};
 ghost use Rattle.messages.specs.Run as Loop;
 
 use pieces::{BUNDLE_MAX, Order};
 use reassembly::Taken;
-use row::{Phase, Row};
+use row::{Phase, SoundRow};
 use rows::{Act, Settings, State, Visit};
 use window::Window;
 use wire::{Kind, Version};
@@ -36,15 +35,16 @@ pub struct Limits {
 // A message with its content, for its row; a bundle goes to the front of `out`. (That the row has 64 entries is known only of a parameter.)
 fn row_turn(
     order: Order,
-    row: Row,
+    sound: SoundRow,
     act: Act,
     cell: &mut [u8],
     content: &[u8],
     out: &mut [u8],
 ) -> Taken
-    requires { (sound_row row ≡ true) × (Loop.admits act (length content.now) ≡ true) × (length cell.old ≡ bundle_max) × (bundle_max ≤ length out.old) }
-    ensures { (Answers (Loop.row_step order act content.now row cell.old) out.old result cell.new out.new) × (length row.indexes ≡ 64) × (length row.lengths ≡ 64) }
+    requires { (Loop.admits act (length content.now) ≡ true) × (length cell.old ≡ bundle_max) × (bundle_max ≤ length out.old) }
+    ensures { (Answers (Loop.row_step order act content.now sound.row cell.old) out.old result cell.new out.new) × (length sound.row.indexes ≡ 64) × (length sound.row.lengths ≡ 64) }
 {
+    let row = sound.row;
     match act {
         Act::Pass => Taken {
             delivery: None,
@@ -59,7 +59,7 @@ fn row_turn(
         }
         Act::Piece(ending) => {
             let index = octets::number_at(content, 4);
-            reassembly::take_piece(order, row, cell, index, &content[8..], ending, out)
+            reassembly::take_piece(order, sound, cell, index, &content[8..], ending, out)
         }
         Act::Cancel => Taken {
             delivery: None,
@@ -71,22 +71,22 @@ fn row_turn(
 // A message for the row that it goes to: the row's cell is lent on, and what the bundles have left of the output.
 fn cell_turn(
     version: Version,
-    row: Row,
+    sound: SoundRow,
     v: Visit,
     pool: &mut [u8],
     content: &[u8],
     output: &mut [u8],
     used: usize,
 ) -> Taken
-    requires { (sound_row row ≡ true) × (Loop.admits v.act (length content.now) ≡ true) × (v.slot * bundle_max + bundle_max ≤ length pool.old) × (used + bundle_max ≤ length output.old) }
-    ensures { (Loop.Lands (Loop.row_step (order_of version) v.act content.now row (cell_at pool.old v.slot)) v.slot pool.old used output.old result pool.new output.new) × (length row.indexes ≡ 64) × (length row.lengths ≡ 64) }
+    requires { (Loop.admits v.act (length content.now) ≡ true) × (v.slot * bundle_max + bundle_max ≤ length pool.old) × (used + bundle_max ≤ length output.old) }
+    ensures { (Loop.Lands (Loop.row_step (order_of version) v.act content.now sound.row (cell_at pool.old v.slot)) v.slot pool.old used output.old result pool.new output.new) × (length sound.row.indexes ≡ 64) × (length sound.row.lengths ≡ 64) }
 {
     let base = v.slot * BUNDLE_MAX;
     let top = base + BUNDLE_MAX;
     let act = v.act;
     row_turn(
         rows::order_of(version),
-        row,
+        sound,
         act,
         &mut pool[base..top],
         content,
@@ -230,15 +230,10 @@ pub fn run(
         if 0 < v.entered {
             state.rows[slot] = row::empty_row(Phase::Free);
         }
-        let t = cell_turn(
-            version,
-            state.rows[slot],
-            v,
-            pool,
-            content,
-            output,
-            progress.used,
-        );
+        let sound = SoundRow {
+            row: state.rows[slot],
+        };
+        let t = cell_turn(version, sound, v, pool, content, output, progress.used);
         state.rows[slot] = t.row;
         list_bundle(lengths, numbers, progress.count, t.delivery, v.origin);
         progress = progressed(progress, t.delivery, end, v.origin);

@@ -30,6 +30,13 @@ pub struct Row {
     pub lengths: [u16; INDEX_COUNT],
 }
 
+// A row that is sound. The row rules take no other.
+#[derive(Clone, Copy)]
+pub struct SoundRow {
+    pub row: Row,
+    ghost sound: { Spec.sound_row row ≡ true },
+}
+
 // What the row rules say of a segment or an end. Accepts: its data goes to this offset of the cell.
 #[derive(Clone, Copy)]
 pub enum Verdict {
@@ -76,10 +83,10 @@ fn contradicts(known: bool, last: u8, scan: Scan, index: u8, ending: bool) -> bo
 }
 
 // Steps 2 to 6 of the row rules, for a row that takes messages.
-fn judge_live(row: Row, index: u32, length: usize, ending: bool) -> Verdict
-    requires { Spec.sound_row row ≡ true }
-    ensures { result ≡ Spec.judge_live row ending index length }
+fn judge_live(sound: SoundRow, index: u32, length: usize, ending: bool) -> Verdict
+    ensures { result ≡ Spec.judge_live sound.row ending index length }
 {
+    let row = sound.row;
     if 63 < index {
         return Verdict::Abandons;
     }
@@ -99,12 +106,11 @@ fn judge_live(row: Row, index: u32, length: usize, ending: bool) -> Verdict
 }
 
 // Steps 1 to 6.
-pub fn judge(row: Row, index: u32, length: usize, ending: bool) -> Verdict
-    requires { Spec.sound_row row ≡ true }
-    ensures { result ≡ Spec.judge row ending index length }
+pub fn judge(sound: SoundRow, index: u32, length: usize, ending: bool) -> Verdict
+    ensures { result ≡ Spec.judge sound.row ending index length }
 {
-    if is_live(row.phase) {
-        judge_live(row, index, length, ending)
+    if is_live(sound.row.phase) {
+        judge_live(sound, index, length, ending)
     } else {
         Verdict::Stays
     }

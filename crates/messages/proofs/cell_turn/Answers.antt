@@ -13,15 +13,15 @@ pub row_turn-requires : goal.row_turn-requires
 row_turn-requires c =
     let a = c.args in
     let p = c.requires in
-    (p.0, p.1, rw (lent-cell a.pool.now a.v.slot) (length-cell-in a.pool.now a.v.slot p.2), rw (length_part a.output.now a.used (omega arith)) (omega arith))
+    (p.0, rw (lent-cell a.pool.now a.v.slot) (length-cell-in a.pool.now a.v.slot p.1), rw (length_part a.output.now a.used (omega arith)) (omega arith))
 
 pub returns : goal.returns
 returns c =
     let a = c.args in
     let p = c.requires in
-    let o = row_step (order_of a.version) a.v.act a.content.now a.row (cell_at a.pool.now a.v.slot) in
+    let o = row_step (order_of a.version) a.v.act a.content.now a.sound.row (cell_at a.pool.now a.v.slot) in
     let w : Answers o (take (length a.output.now - a.used) (drop a.used a.output.now)) c.row_turn.result c.row_turn.new.cell c.row_turn.new.out = rw (lent-cell a.pool.now a.v.slot, c.order_of.ensures) at c.row_turn.ensures.0 in
-    let long = row-cell (order_of a.version) a.content.now a.row (cell_at a.pool.now a.v.slot) a.v.act (length-cell-in a.pool.now a.v.slot p.2) in (
+    let long = row-cell (order_of a.version) a.content.now a.sound.row (cell_at a.pool.now a.v.slot) a.v.act (length-cell-in a.pool.now a.v.slot p.1) in (
       record {
         row = w.row;
         delivery = w.delivery;

@@ -170,14 +170,20 @@ offset_bounds-state-slot-in-loop-limits c = omega (arith, slot-below (turn (goal
 pub bounds-state-slot-in-loop-limits : goal.bounds-state-slot-in-loop-limits
 bounds-state-slot-in-loop-limits c = slot-below (turn (goal.at.bounds-state-slot-in-loop-limits c).In-Ok) _ c.visit_of-v.ensures
 
+pub invariant_of-sound : goal.invariant_of-sound
+invariant_of-sound c =
+    let g = goal.at.invariant_of-sound c in
+    let t = turn g.In-Ok in
+    let e = c.visit_of-v.ensures in
+    let er = ap (λ (s : State). s.rows) (joined3 g.Joined-v-gt0 (joined2 g.Joined-v-gt1)) in
+    record { sound = rw (row_is t _ e c.if-v-gt0.state.rows er vacant) (found-sound t) }
+
 pub cell_turn-t-requires : goal.cell_turn-t-requires
 cell_turn-t-requires c =
     let h = (goal.at.cell_turn-t-requires c).In-Ok in
     let t = turn h in
     let e = c.visit_of-v.ensures in
-    let es = joined3 (goal.at.cell_turn-t-requires c).Joined-v-gt0 (joined2 (goal.at.cell_turn-t-requires c).Joined-v-gt1) in
-    let er = ap (λ (s : State). s.rows) es in
-    (rw (row_is t _ e c.if-v-gt0.state.rows er vacant) (found-sound t), rw e (admit t (small h)), cell-within c.args.state.now.settings.window c.loop-limits.pool c.loop-limits.invariant.ready.pool c.visit_of-v.result.slot (slot-in t _ e), room t)
+    (rw e (admit t (small h)), cell-within c.args.state.now.settings.window c.loop-limits.pool c.loop-limits.invariant.ready.pool c.visit_of-v.result.slot (slot-in t _ e), room t)
 
 pub offset_bounds-state-slot-in-loop-limits-2 : goal.offset_bounds-state-slot-in-loop-limits-2
 offset_bounds-state-slot-in-loop-limits-2 c = omega (arith, slot-below (turn (goal.at.offset_bounds-state-slot-in-loop-limits-2 c).In-Ok) _ c.visit_of-v.ensures)
