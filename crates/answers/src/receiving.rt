@@ -7,7 +7,7 @@ ghost use Rattle.answers.specs.Receiver as Spec;
 use images::receiving::IMAGE_SIZE;
 use receiver::{Answer, Refusal, State};
 
-// The refusal's number, and above its 8 bits the place that it names.
+// The refusal's number, and above its 8 bits the place that it names: what C is given.
 fn refusal_code(refusal: Refusal) -> u32
     requires { Call.named (Call.refusal_place refusal) < frame_max }
     ensures { result ≡ Spec.code refusal }

@@ -7,7 +7,8 @@ ghost use Rattle.board.specs.Receiver as Spec;
 use images::receiving::IMAGE_SIZE;
 use wire::Version;
 
-// Makes the image of a fresh receiver of a draft, with a window of 4, 8 or 16.
+// Makes the image of a fresh receiver of a draft, with a window of 4, 8 or 16. A trait over this and a sender's, with other images, would
+// be longer than both.
 fn begin(version: Version, state: &mut [u8; IMAGE_SIZE], window: u32) -> u32
     ensures { ◌≡◌ {A = ℕ × List ℕ} (result, state.new) (Spec.started version state.old window) }
 {

@@ -20,7 +20,7 @@ pub struct Reached {
     pub refused: usize,
 }
 
-// A refused frame in the lists.
+// A refused frame in the lists, which are two in the C interface.
 fn note(places: &mut [u32], reasons: &mut [u32], at: usize, frame: u32, reason: u32)
     ensures { (places.new ≡ set places.old at frame) × (reasons.new ≡ set reasons.old at reason) }
 {

@@ -117,6 +117,7 @@ pub fn state_of(image: &[u8; IMAGE_SIZE]) -> State
     state
 }
 
+// The remainder says which bits stay: a cast that loses bits is not proved.
 fn put_row(image: &mut [u8], at: usize, row: Row)
     requires { at + row_size ≤ length image.old }
     ensures { (image.new ≡ put image.old at (Spec.row_image row)) × (length (Spec.row_image row) ≡ row_size) }

@@ -37,7 +37,7 @@ pub fn read(image: &[u8; IMAGE_SIZE]) -> Option<State>
     is_image(image).then(|| state_of(image))
 }
 
-// The last 16 bits of a number, from `at` on.
+// The last 16 bits of a number, from `at` on. By the remainder: a cast that loses bits is not proved.
 fn put_low(to: &mut [u8], at: usize, n: usize)
     requires { at + 2 ≤ length to.old }
     ensures { to.new ≡ put to.old at (be16 n) }

@@ -33,6 +33,7 @@ pub struct Limits {
 }
 
 // A message with its content, for its row; a bundle goes to the front of `out`. (That the row has 64 entries is known only of a parameter.)
+// What it does is an enum of the definitions, and each arm does another thing with the row.
 fn row_turn(
     order: Order,
     sound: SoundRow,
@@ -94,7 +95,7 @@ fn cell_turn(
     )
 }
 
-// The transfer number, or one that no transfer has.
+// The transfer number, or one that no transfer has: in a list for C a number stands for none.
 pub fn origin_number(origin: Option<u32>) -> u64
     ensures { result ≡ Loop.origin_number origin }
 {
@@ -104,7 +105,7 @@ pub fn origin_number(origin: Option<u32>) -> u64
     }
 }
 
-// An entry, where the list has it.
+// An entry, where the list has it. By its place, since `get_mut` does not say what the list ends as.
 pub fn put_entry<T: Copy>(entries: &mut [T], at: usize, x: T)
     ensures { entries.new ≡ set entries.old at x }
 {
@@ -113,7 +114,7 @@ pub fn put_entry<T: Copy>(entries: &mut [T], at: usize, x: T)
     }
 }
 
-// The length and the number of a bundle in the lists.
+// The length and the number of a bundle in the lists, which are two in the C interface.
 fn list_bundle(
     lengths: &mut [u16],
     numbers: &mut [u64],

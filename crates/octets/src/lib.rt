@@ -4,7 +4,8 @@
 ghost use Rattle.std.specs.Prelude.{◌≡◌, ◌+◌, ◌-◌, ◌*◌, ◌/◌, ◌≤◌, length, drop, replicate};
 ghost use Rattle.octets.specs.Octets.{number, number16, be32, be16, pairs, spread, sum_of, put};
 
-// The number of 16 bits at a position.
+// The number of 16 bits at a position. A line for each width, here and where numbers are written: one generic function would need a trait
+// with a law for each.
 pub fn number16_at(s: &[u8], at: usize) -> u16
     requires { at + 2 ≤ length s.now }
     ensures { result ≡ number16 (drop at s.now) }
@@ -33,7 +34,7 @@ pub fn read_pairs<const N: usize>(octets: &[u8]) -> [u16; N]
     numbers
 }
 
-// All of src, from `at` on.
+// All of src, from `at` on. The place is a parameter, as in the definition `put`, which says that all else stays.
 pub fn copy_into(to: &mut [u8], at: usize, src: &[u8])
     requires { at + length src.now ≤ length to.old }
     ensures { to.new ≡ put to.old at src.now }
@@ -66,7 +67,7 @@ pub fn put_number16(to: &mut [u8], at: usize, n: u16)
     put_array::<2>(to, at, n.to_be_bytes());
 }
 
-// Numbers of 16 bits one behind another, from `at` on.
+// Numbers of 16 bits one behind another, from `at` on. By places, since `chunks_mut` does not say what the slice ends as.
 pub fn put_pairs(to: &mut [u8], at: usize, numbers: &[u16])
     requires { at + 2 * length numbers.now ≤ length to.old }
     ensures { to.new ≡ put to.old at (spread numbers.now) }

@@ -126,7 +126,7 @@ pub fn pool_size(window: u32) -> usize
     window as usize * BUNDLE_MAX
 }
 
-// The first refusal that applies.
+// The first refusal that applies. The burst call shares the first two tests; what they refuse with is of another type there.
 #[tactic(auto, unfolding(octets::specs::Admission::admission, crate::specs::Receive::refusal))]
 fn admit(
     state: &State,

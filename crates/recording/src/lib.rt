@@ -38,7 +38,8 @@ impl From<Refusal> for u32 {
     }
 }
 
-// A recording that was read: the lengths of its frames with zeros behind them, and how many frames and octets there are.
+// A recording that was read: the lengths of its frames with zeros behind them, and how many frames and octets there are. An array
+// and a count, since memory is fixed and C is given all 1,024 entries.
 #[derive(Clone, Copy)]
 pub struct Opened {
     pub lengths: [u16; FRAMES_MAX],

@@ -72,7 +72,7 @@ fn is_open(phase: Phase) -> bool
     matches!(phase, Phase::Open)
 }
 
-// The four contradictions of a segment or an end with this index.
+// The four contradictions of a segment or an end with this index. The final index goes with its flag, as the row has it.
 fn contradicts(known: bool, last: u8, scan: Scan, index: u8, ending: bool) -> bool
     ensures { result ≡ Spec.contradiction known last scan.held scan.above index ending }
 {

@@ -15,7 +15,7 @@ use row::{Phase, Row};
 use window::{Standing, Window};
 use wire::{Kind, Version};
 
-// What is chosen at start and stays.
+// What is chosen at start and stays. The window is a number, since `is_sound` refuses a state with another than 4, 8 and 16.
 #[derive(Clone, Copy)]
 pub struct Settings {
     pub version: Version,
@@ -44,7 +44,7 @@ pub enum Act {
 }
 
 // What a message does, the row that it goes to, how many numbers enter the window for it, the window after it, and the origin of its
-// bundle: the number of its transfer, or none for a bundle message.
+// bundle: the number of its transfer, or none for a bundle message. The window is given back as the state has it, a flag and a number.
 #[derive(Clone, Copy)]
 pub struct Visit {
     pub act: Act,
@@ -55,7 +55,7 @@ pub struct Visit {
     pub origin: Option<u32>,
 }
 
-// The order of index in which a draft joins pieces.
+// The order of index in which a draft joins pieces. No From: neither crate of the two types stands on the other.
 pub fn order_of(version: Version) -> Order
     ensures { result ≡ Message.order_of version }
 {

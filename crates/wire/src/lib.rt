@@ -181,7 +181,7 @@ fn read_body(version: Version, frame: &[u8], at: usize, size: usize) -> Result<S
     Err(Fault::BadContent)
 }
 
-// The message that starts at a position of the frame.
+// The message that starts at a position of the frame. Not in the rest of the frame: what is answered names positions.
 pub fn read_message(version: Version, frame: &[u8], at: usize) -> Result<Span, Fault>
     requires { at < length frame.now }
     ensures { result ≡ answer at (read version (drop at frame.now)) }
