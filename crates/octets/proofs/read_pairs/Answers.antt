@@ -1,4 +1,4 @@
-use mathlib.Core.Path.{◌≡◌, sym, ◌∙◌}
+use mathlib.Core.Path.{sym, ◌∙◌}
 use Rattle.std.proofs.Common.{arith, ◌/◌, length, replicate}
 use lib.ListN.{length-replicate}
 use Rattle.octets.specs.Octets.{pairs, number16}
@@ -17,9 +17,3 @@ loop-j-preserved g c =
     let xs = c.args.octets.now in
     let v = pair_at l.j (length xs / 2) xs (omega (arith, c.as_chunks.ensures.front_len)) in
     rw l.invariant (pairs-put (replicate g.row.N 0) xs l.j _ (rw length-replicate (omega (arith, c.as_chunks.ensures.front_len))) (c.from_be_bytes.ensures ∙ rw c.as_chunks.ensures.front v))
-
-pub returns : goal.returns
-returns g c =
-    let l = c.loop-j in
-    let e : l.j ≡ length c.args.octets.now / 2 = omega (arith, c.as_chunks.ensures.front_len, l.auto.j-end) in
-    rw e at l.invariant

@@ -3,8 +3,7 @@ use mathlib.Core.Path.{◌≡◌, sym, ◌∙◌}
 use mathlib.Core.Bool.{true, ◌&&◌}
 use borrow.Author.Rules.{rules}
 use lib.Dec.{leb}
-use borrow.Author.Tests.{leb-true}
-use Rattle.octets.proofs.Flags.{and, both}
+use Rattle.octets.proofs.Flags.{and}
 use Rattle.row.proofs.Chain.{passed, failed}
 use Rattle.row.specs.Row.{sound_open, sound_pieces}
 use Rattle.row.proofs.sound_open.Goals.{After-contains, Then-sound_pieces, then-contains, else-contains}
@@ -20,13 +19,6 @@ sound c =
       | then-contains w ↦ (w.if-contains.true, sym (w.value-is ∙ w.sound_pieces.ensures) ∙ c.if-sound_pieces.true)
       | else-contains w ↦ absurd (cc)
     ]
-
-pub sound_last-requires : goal.sound_last-requires
-sound_last-requires c =
-    let held = c.args.row.held in
-    let i = inside (goal.at.sound_last-requires c).After-contains in
-    let s = sound (goal.at.sound_last-requires c).Then-sound_pieces in
-    leb-true held 64 (both (leb 1 held) (leb held 64) (sym i ∙ s.0)).1
 
 pub returns-then-sound_pieces : goal.returns-then-sound_pieces
 unfolding sound_open

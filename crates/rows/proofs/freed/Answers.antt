@@ -1,5 +1,5 @@
 use mathlib.Core.Path.{◌∙◌, ap, ◌≡◌, sym}
-use Prim.Native.Nat.{ℕ, ◌≤◌, ◌<◌, ◌+◌, ◌%◌}
+use Prim.Native.Nat.{ℕ, ◌≤◌, ◌<◌, ◌%◌}
 use native.Mathlib.Omega.{arith}
 use lib.ListN.{length-set, length}
 use Rattle.window.specs.Window.{Window}
@@ -25,34 +25,11 @@ module _ (c : Start) where
   full : length c.args.rows ≡ 16
   full = search rules
 
-pub nonzero_rem-first : goal.nonzero_rem-first
-nonzero_rem-first c = omega (arith, range (goal.at.nonzero_rem-first c).Start)
-
-pub overflow_add-first : goal.overflow_add-first
-overflow_add-first c =
-    omega (arith, range (goal.at.overflow_add-first c).Start, below (goal.at.overflow_add-first c).Start c.args.window.greatest)
-
 pub loop-j-init : goal.loop-j-init
 loop-j-init c =
     let a = c.args in
     let g = (goal.at.loop-j-init c).Start in
     (omega (arith, c.min-j-end.ensures), sym (freed-none a.window.size (win g) a.window.greatest a.rows (omega (arith, range g, full g))), full g)
-
-pub overflow_add-first-in-loop-j : goal.overflow_add-first-in-loop-j
-overflow_add-first-in-loop-j c =
-    let i = c.loop-j.invariant in
-    let g = (goal.at.overflow_add-first-in-loop-j c).Start in
-    omega (arith, i.0, range g, below g c.args.window.greatest)
-
-pub offset_bounds-next-slot : goal.offset_bounds-next-slot
-offset_bounds-next-slot c =
-    let g = (goal.at.offset_bounds-next-slot c).Start in
-    omega (arith, c.row_of-slot.ensures, range g, below g (c.args.window.greatest % c.args.window.size + 1 + c.loop-j.j))
-
-pub bounds-next-slot : goal.bounds-next-slot
-bounds-next-slot c =
-    let g = (goal.at.bounds-next-slot c).Start in
-    omega (arith, c.row_of-slot.ensures, range g, below g (c.args.window.greatest % c.args.window.size + 1 + c.loop-j.j), c.loop-j.invariant.2)
 
 pub loop-j-preserved : goal.loop-j-preserved
 loop-j-preserved c =
