@@ -168,7 +168,8 @@ pub fn receive(
     place: usize,
     output: &mut [u8],
 ) -> Result<Answer, Refusal>
-    ensures { Call.reply result state.new pool.new output.new ≡ Call.receive (record { state = state.old; pool = pool.old }) frame.now place output.old }
+    ensures { Call.reply result state.new pool.new output.new
+        ≡ Call.receive (record { state = state.old; pool = pool.old }) frame.now place output.old }
 {
     admit(state, pool, frame, place, output)?;
     let limits = Limits {
