@@ -127,7 +127,8 @@ pub fn receive_burst(
     reasons: &mut [u32; FRAMES_MAX],
 ) -> Result<Taken, Refusal>
     ensures { Spec.reply result state.new pool.new (Spec.lists output.new lengths.new numbers.new places.new reasons.new)
-        ≡ Spec.receive_burst (draft_of state.old) (window_of state.old) (record { state = state.old; pool = pool.old }) sizes.now joined.now frame place
+        ≡ Spec.receive_burst (draft_of state.old) (window_of state.old) (record { state = state.old; pool = pool.old })
+        sizes.now joined.now frame place
         (Spec.lists output.old lengths.old numbers.old places.old reasons.old) }
 {
     let frames = Frames {
