@@ -5,15 +5,9 @@ use lib.ListN.{length, take, drop}
 use Rattle.reassembly.specs.Rules.{Answers}
 use Rattle.rows.specs.Message.{order_of, cell_at}
 use Rattle.messages.specs.Run.{row_step}
-use Rattle.messages.proofs.Cells.{lent-cell, cell-back, output-back, length-cell-in, length_part}
+use Rattle.messages.proofs.Cells.{lent-cell, cell-back, output-back, length-cell-in}
 use Rattle.messages.proofs.Visits.{row-cell}
 use Rattle.messages.proofs.cell_turn.Goals as goal
-
-pub row_turn-requires : goal.row_turn-requires
-row_turn-requires c =
-    let a = c.args in
-    let p = c.requires in
-    (p.0, rw (lent-cell a.pool.now a.v.slot) (length-cell-in a.pool.now a.v.slot p.1), rw (length_part a.output.now a.used (omega arith)) (omega arith))
 
 pub returns : goal.returns
 returns c =

@@ -1,29 +1,15 @@
 -- `messages::row_turn` meets its contract.
 use mathlib.Core.Path.{◌≡◌, refl}
-use native.Mathlib.Omega.{arith}
 use lib.ListN.{length}
 use Rattle.reassembly.specs.Rules.{cancel_step, delivery_of, written}
 use Rattle.messages.specs.Run.{row_step}
-use Rattle.messages.proofs.Admits.{bundle-short, piece-long, part_to_end}
+use Rattle.messages.proofs.Admits.{part_to_end}
 use borrow.Author.Rules.{rules}
 use Rattle.messages.proofs.row_turn.Goals.{Start}
 use Rattle.messages.proofs.row_turn.Goals as goal
 
 long : (c : Start) → (length c.args.sound.row.indexes ≡ 64) × (length c.args.sound.row.lengths ≡ 64)
 long c = (search rules, search rules)
-
-pub copy_into-requires : goal.copy_into-requires
-copy_into-requires c =
-    omega (arith, bundle-short c.args.act (length c.args.content.now) c.requires.0 c.in-HandOut.is, c.requires.2)
-
-pub number_at-index-requires : goal.number_at-index-requires
-number_at-index-requires c = omega (arith, piece-long c.args.act (length c.args.content.now) c.requires.0 c.in-Piece.is)
-
-pub slice_bounds-take_piece-count : goal.slice_bounds-take_piece-count
-slice_bounds-take_piece-count c = omega (arith, piece-long c.args.act (length c.args.content.now) c.requires.0 c.in-Piece.is)
-
-pub slice_bounds-take_piece-start : goal.slice_bounds-take_piece-start
-slice_bounds-take_piece-start c = omega (arith, piece-long c.args.act (length c.args.content.now) c.requires.0 c.in-Piece.is)
 
 pub returns-in-Pass : goal.returns-in-Pass
 unfolding row_step delivery_of written

@@ -20,7 +20,7 @@ use Rattle.rows.specs.declared.Visit.{Visit}
 use Rattle.rows.proofs.Rows.{get_or_any, sound-window}
 use Rattle.messages.specs.Run.{progressed, size, Run, going}
 use Rattle.messages.specs.declared.Progress.{Progress}
-use Rattle.messages.proofs.Looping.{progressed-next, begins, ends, some_left, never_bad, passed, turned, v, at<, treated<, count<, room, place, slot<, fits, admit, found-sound, handed-fits, win, Turn}
+use Rattle.messages.proofs.Looping.{progressed-next, begins, ends, never_bad, passed, turned, v, at<, treated<, count<, room, place, slot<, fits, admit, found-sound, handed-fits, win, Turn}
 use Rattle.messages.proofs.Cells.{cell-within}
 use Rattle.messages.proofs.Visits.{visited, rows_for, rows-for-full, cleared, cleared-some, cleared-none, opened, opened_some, opened-none}
 use borrow.Author.Rules.{rules}
@@ -128,12 +128,6 @@ loop-limits-init c =
     let range = window_range _ (sound-window c.args.state.now c.requires.0.sound) in
     begins c.args.limits c.args.frame.now _ c.requires.0 c.requires.2 (omega (arith, range, c.typed.ensures.0)) c.typed.ensures.1
 
-pub more-requires : goal.more-requires
-more-requires c = let g = c.loop-limits.invariant in omega (arith, g.output, g.used)
-
-pub read_message-requires : goal.read_message-requires
-read_message-requires c = omega (arith, some_left c.loop-limits.invariant (sym c.more.ensures ∙ c.loop-limits-test.true))
-
 pub progressed-progress-requires : goal.progressed-progress-requires
 progressed-progress-requires c = delivered (goal.at.progressed-progress-requires c).In-Ok None (omega arith)
 
@@ -184,12 +178,6 @@ cell_turn-t-requires c =
     let t = turn h in
     let e = c.visit_of-v.ensures in
     (rw e (admit t (small h)), cell-within c.args.state.now.settings.window c.loop-limits.pool c.loop-limits.invariant.ready.pool c.visit_of-v.result.slot (slot-in t _ e), room t)
-
-pub offset_bounds-state-slot-in-loop-limits-2 : goal.offset_bounds-state-slot-in-loop-limits-2
-offset_bounds-state-slot-in-loop-limits-2 c = omega (arith, slot-below (turn (goal.at.offset_bounds-state-slot-in-loop-limits-2 c).In-Ok) _ c.visit_of-v.ensures)
-
-pub bounds-state-slot-in-loop-limits-2 : goal.bounds-state-slot-in-loop-limits-2
-bounds-state-slot-in-loop-limits-2 c = slot-below (turn (goal.at.bounds-state-slot-in-loop-limits-2 c).In-Ok) _ c.visit_of-v.ensures
 
 -- the row has 64 entries, and what it hands out is no longer than a bundle
 shaped : (c : After-cell_turn-t) → Shaped (get_or c.if-v-gt0.state.rows c.visit_of-v.result.slot vacant)

@@ -25,9 +25,6 @@ octets_of-octets-requires c = (opened (goal.at.octets_of-octets-requires c).In_o
 pub shared_ref_as_front-sizes : goal.shared_ref_as_front-sizes
 shared_ref_as_front-sizes c = (opened (goal.at.shared_ref_as_front-sizes c).In_ok-opened).few
 
-pub slice_bounds-sizes-end : goal.slice_bounds-sizes-end
-slice_bounds-sizes-end c = let O = opened (goal.at.slice_bounds-sizes-end c).In_ok-opened in sym (ap length O.lengths ∙ O.frames)
-
 pub play_open-requires : goal.play_open-requires
 play_open-requires c =
     let O = opened (goal.at.play_open-requires c).In_ok-opened in

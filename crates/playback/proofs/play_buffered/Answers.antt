@@ -15,10 +15,6 @@ module _ (c : After-play_frames-reached) where
   abbrev lent : Results
   lent = let a = c.args in results a.output.now a.lengths.now a.places.now a.reasons.now
 
-pub slice_bounds-copy_into-end-2 : goal.slice_bounds-copy_into-end-2
-slice_bounds-copy_into-end-2 c =
-    sym (front_length (playback (goal.at.slice_bounds-copy_into-end-2 c).After-play_frames-reached) c.args.buffer.now (lent (goal.at.slice_bounds-copy_into-end-2 c).After-play_frames-reached) _ _ _ _ _ _ _ _ _ c.play_frames-reached.ensures.0)
-
 pub returns : goal.returns
 returns c =
     copied (playback (goal.at.returns c).After-play_frames-reached) c.args.buffer.now (lent (goal.at.returns c).After-play_frames-reached) _ _ _ _ _ _ _ _ _ c.play_frames-reached.ensures.0 _ c.copy_into.ensures
