@@ -1,14 +1,14 @@
 // What a cancel, a segment or an end does to a row and its cell, and the bundle that it completes.
 #![tactic(auto)]
 
-ghost use Rattle.std.specs.Prelude.{◌≡◌, ◌+◌, ◌≤◌, ◌<◌, length};
+ghost use Rattle.std.specs.Prelude.{◌≡◌, true, ◌+◌, ◌≤◌, ◌<◌, length};
 ghost use Rattle.octets.specs.Octets.{put, sum_of};
 ghost use Rattle.pieces.specs.Pieces.{bundle_max};
-ghost use Rattle.row.specs.Row.{lengths_of};
+ghost use Rattle.row.specs.Row.{lengths_of, sound_row};
 ghost use Rattle.reassembly.specs.Rules as Spec;
 
 use pieces::Order;
-use row::{Phase, Row, SoundRow, Verdict};
+use row::{Phase, Row, Verdict};
 
 // What a segment or an end leaves of its row, and the length of the bundle that it completes, if it does.
 #[derive(Clone, Copy)]
@@ -36,7 +36,7 @@ fn last_after(last: u8, index: u8, ending: bool) -> u8
 }
 
 // The row and the cell with one piece more, whose octets lie from `at` on. Where that completes the row, its bundle goes to the front
-// of `out`, and the row is done. (Cell and output are parts of what hosts lend, so their lengths stand in clauses.)
+// of `out`, and the row is done.
 fn accept(
     order: Order,
     row: Row,
@@ -83,18 +83,17 @@ fn accept(
 // A segment or an end with this index and this payload; a complete row's pieces are joined in the order.
 pub fn take_piece(
     order: Order,
-    sound: SoundRow,
+    row: Row,
     cell: &mut [u8],
     index: u32,
     payload: &[u8],
     ending: bool,
     out: &mut [u8],
 ) -> Taken
-    requires { (length cell.old ≡ bundle_max) × (bundle_max ≤ length out.old) }
-    ensures { Spec.Answers (Spec.piece_step order ending index payload.now sound.row cell.old) out.old result cell.new out.new }
+    requires { (sound_row row ≡ true) × (length cell.old ≡ bundle_max) × (bundle_max ≤ length out.old) }
+    ensures { Spec.Answers (Spec.piece_step order ending index payload.now row cell.old) out.old result cell.new out.new }
 {
-    let row = sound.row;
-    match row::judge(sound, index, payload.len(), ending) {
+    match row::judge(row, index, payload.len(), ending) {
         Verdict::Stays => Taken {
             delivery: None,
             row,

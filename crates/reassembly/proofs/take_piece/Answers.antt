@@ -13,18 +13,18 @@ use borrow.Author.Rules.{rules}
 use Rattle.reassembly.proofs.take_piece.Goals as goal
 use Rattle.reassembly.proofs.take_piece.Goals.{After-accept-arg-1}
 
-shaped : (c : After-accept-arg-1) → Shaped c.args.sound.row
+shaped : (c : After-accept-arg-1) → Shaped c.args.row
 shaped c = record { indexes64 = search rules; lengths64 = search rules }
 
 taken : (c : After-accept-arg-1) →
     let a = c.args in
-    Accepted a.sound.row a.ending a.index (length a.payload.now) × (c.in-Accepts.at ≡ sum_of (lengths_of a.sound.row))
+    Accepted a.row a.ending a.index (length a.payload.now) × (c.in-Accepts.at ≡ sum_of (lengths_of a.row))
 taken c = accepted _ _ _ _ _ (sym c.judge.ensures ∙ c.in-Accepts.is)
 
 next : (c : After-accept-arg-1) →
     let a = c.args in
-    Joinable (with_piece a.sound.row a.ending a.index (length a.payload.now))
-next c = joinable _ _ _ _ (sound_facts _ c.args.sound.sound) (shaped c) (taken c).0
+    Joinable (with_piece a.row a.ending a.index (length a.payload.now))
+next c = joinable _ _ _ _ (sound_facts _ c.requires.0) (shaped c) (taken c).0
 
 pub overflow_cast-index : goal.overflow_cast-index
 overflow_cast-index c = omega (arith, (taken (goal.at.overflow_cast-index c).After-accept-arg-1).0.low)
@@ -35,7 +35,7 @@ accept-requires c =
     let p = c.requires in
     let a = taken (goal.at.accept-requires c).After-accept-arg-1 in
     let j = next (goal.at.accept-requires c).After-accept-arg-1 in
-    record { held_bound = (omega (arith, j.few), omega (arith, a.0.fits, a.1), p.0, p.1); ending_bound = (j.last, j.fits) }
+    record { held_bound = (omega (arith, j.few), omega (arith, a.0.fits, a.1), p.1, p.2); ending_bound = (j.last, j.fits) }
 
 pub returns-in-Stays : goal.returns-in-Stays
 unfolding piece_step carry_out delivery_of written
