@@ -6,6 +6,7 @@ ghost use Rattle.answers.specs.Sender as Spec;
 use images::sending::IMAGE_SIZE;
 use sender::{Answer, Refusal, State};
 
+// What C is given for an answer.
 fn code(answer: Answer) -> u64
     ensures { (r : List ℕ) → set r 0 result ≡ Spec.report (reply (Ok answer)) r }
 {

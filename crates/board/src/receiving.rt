@@ -21,7 +21,7 @@ fn begin(version: Version, state: &mut [u8; IMAGE_SIZE], window: u32) -> u32
     }
 }
 
-// A receiver of draft 02 with the plain window.
+// A receiver of draft 02 with the plain window. Each start has a name of its own in C.
 pub fn btpu_receiver_start(state: &mut [u8; IMAGE_SIZE]) -> u32
     ensures { ◌≡◌ {A = ℕ × List ℕ} (result, state.new) (Spec.started Draft02 state.old plain_window) }
 {

@@ -6,7 +6,7 @@ ghost use Rattle.board.specs.Sender as Spec;
 use images::sending::IMAGE_SIZE;
 use wire::Version;
 
-// Makes the image of a fresh sender of a draft.
+// Makes the image of a fresh sender of a draft. Each start has a name of its own in C.
 fn begin(version: Version, state: &mut [u8; IMAGE_SIZE], size: u64, first: u32) -> u32
     ensures { ◌≡◌ {A = ℕ × List ℕ} (result, state.new) (Spec.started version state.old size first) }
 {

@@ -90,7 +90,7 @@ fn admit_frames(version: Version, frames: Frames, frame: usize, place: usize) ->
     Ok(())
 }
 
-// The first refusal that applies.
+// The first refusal that applies. The first two tests are the receiver's; what they refuse with is of another type there.
 #[tactic(auto, unfolding(octets::specs::Admission::admission, crate::specs::Burst::refusal))]
 fn admit(
     state: &State,
@@ -112,7 +112,7 @@ fn admit(
 }
 
 // Takes frames, given by their lengths and their joined octets, from a frame and a place on, until all are taken, 256 bundles are out or
-// the output lacks room for one more.
+// the output lacks room for one more. Lengths and octets are lent by themselves, as in the C interface.
 pub fn receive_burst(
     state: &mut State,
     pool: &mut [u8],

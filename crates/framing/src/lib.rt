@@ -24,7 +24,7 @@ pub struct State {
 }
 
 // Refusals 1 and 10 to 14 of document 01, in that order.
-#[derive(Clone, Copy, Debug, PartialEq, Eq)]
+#[derive(Clone, Copy)]
 pub enum Refusal {
     Unsound,
     WrongBuffer,
@@ -34,7 +34,7 @@ pub enum Refusal {
     FrameSize,
 }
 
-#[derive(Clone, Copy, Debug, PartialEq, Eq)]
+#[derive(Clone, Copy)]
 pub enum Answer {
     Placed,
     PlacedReady,

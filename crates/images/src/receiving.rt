@@ -130,6 +130,7 @@ fn put_row(image: &mut [u8], at: usize, row: Row)
     octets::put_pairs(image, at + 68, &row.lengths);
 }
 
+// By places, since `chunks_mut` does not say what the image ends as.
 fn put_rows(image: &mut [u8; IMAGE_SIZE], rows: [Row; ROW_COUNT])
     ensures { (image.new ≡ put image.old 8 (Spec.rows_image rows)) × (length (Spec.rows_image rows) ≡ row_max * row_size) }
 {

@@ -14,11 +14,12 @@ fn show_origin(rt: &impl Print, origin: Option<u32>) -> io::Result<()> {
     }
 }
 
+// As in `recorded`: the two programs share no crate that prints.
 fn show_octet(rt: &impl Print, octet: u8) -> io::Result<()> {
     print!(rt; " {octet:02x}")
 }
 
-// The first octets, as many as the length says.
+// The first octets, as many as the length says: `take` asks for no proof that there are so many.
 fn show_octets(rt: &impl Print, octets: &[u8], length: usize) -> io::Result<()> {
     for octet in octets.iter().take(length) {
         show_octet(rt, *octet)?;

@@ -193,7 +193,8 @@ pub fn join(
     at
 }
 
-// Whether the final index is known and every index up to it is held; a count of the pieces below it rules that out without a search.
+// Whether the final index is known, as a row has it, and every index up to it is held; a count of the pieces below it rules that out
+// without a search.
 pub fn is_complete(known: bool, last: u8, indexes: &[u8]) -> bool
     ensures { result ≡ (known && Spec.has_all (last + 1) indexes.now) }
 {

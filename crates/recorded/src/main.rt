@@ -5,6 +5,7 @@ ghost use Rattle.std.specs.Prelude.{◌≤◌, length, IfOk};
 
 use std::io;
 
+// As in `marked`: the two programs share no crate that prints.
 fn show_octet(rt: &impl Print, octet: u8) -> io::Result<()> {
     print!(rt; " {octet:02x}")
 }
@@ -20,6 +21,7 @@ fn show_size(rt: &impl Print, size: u16) -> io::Result<()> {
     print!(rt; " {size}")
 }
 
+// So many of a list, here and below: `take` asks for no proof that it has them.
 fn show_sizes(rt: &impl Print, sizes: &[u16], frames: usize) -> io::Result<()> {
     print!(rt; "sizes")?;
     for size in sizes.iter().take(frames) {

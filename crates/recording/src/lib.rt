@@ -138,7 +138,7 @@ fn unwritable(frames: Frames) -> Result<(), Refusal>
     weigh(frames.sizes, frames.octets.len())
 }
 
-// Frames from their lengths and their joined octets. Gives how many octets are written.
+// Frames from their lengths and their joined octets, lent by themselves as in the C interface. Gives how many octets are written.
 pub fn write(lengths: &[u16], joined: &[u8], output: &mut [u8]) -> Result<usize, Refusal>
     ensures { ◌≡◌ {A = Spec.Wrote} (record { answer = result; output = output.new })
         (Spec.write (record { lengths = lengths.now; octets = joined.now }) output.old) }
