@@ -12,7 +12,6 @@ use pieces::{BUNDLE_MAX, Order};
 use reassembly::Taken;
 use row::{Phase, SoundRow};
 use rows::{Act, Settings, State, Visit};
-use window::Window;
 use wire::{Kind, Version};
 
 // Messages treated, bundles handed out, their octets, the next message's start, and the last bundle's origin.
@@ -60,7 +59,7 @@ fn row_turn(
         }
         Act::Piece(ending) => {
             let index = octets::number_at(content, 4);
-            reassembly::take_piece(order, sound, cell, index, &content[8..], ending, out)
+            reassembly::take_piece(order, row, cell, index, &content[8..], ending, out)
         }
         Act::Cancel => Taken {
             delivery: None,
@@ -216,14 +215,10 @@ pub fn run(
             continue;
         }
         let content = &frame[m.start..end];
-        let window = Window {
-            size: settings.window,
-            present: state.present,
-            greatest: state.greatest,
-        };
-        let v = rows::visit_of(window, m.kind, content);
+        let size = settings.window;
+        let v = rows::visit_of(size, state.present, state.greatest, m.kind, content);
         if 1 < v.entered {
-            state.rows = rows::freed(state.rows, window, v.entered);
+            state.rows = rows::freed(state.rows, size, state.greatest, v.entered);
         }
         state.present = v.present;
         state.greatest = v.greatest;

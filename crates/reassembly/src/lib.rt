@@ -36,7 +36,7 @@ fn last_after(last: u8, index: u8, ending: bool) -> u8
 }
 
 // The row and the cell with one piece more, whose octets lie from `at` on. Where that completes the row, its bundle goes to the front
-// of `out`, and the row is done.
+// of `out`, and the row is done. (Cell and output are parts of what hosts lend, so their lengths stand in clauses.)
 fn accept(
     order: Order,
     row: Row,

@@ -30,7 +30,7 @@ pub struct Row {
     pub lengths: [u16; INDEX_COUNT],
 }
 
-// A row that is sound. The row rules take no other.
+// A row that is sound.
 #[derive(Clone, Copy)]
 pub struct SoundRow {
     pub row: Row,
@@ -106,11 +106,12 @@ fn judge_live(sound: SoundRow, index: u32, length: usize, ending: bool) -> Verdi
 }
 
 // Steps 1 to 6.
-pub fn judge(sound: SoundRow, index: u32, length: usize, ending: bool) -> Verdict
-    ensures { result ≡ Spec.judge sound.row ending index length }
+pub fn judge(row: Row, index: u32, length: usize, ending: bool) -> Verdict
+    requires { Spec.sound_row row ≡ true }
+    ensures { result ≡ Spec.judge row ending index length }
 {
-    if is_live(sound.row.phase) {
-        judge_live(sound, index, length, ending)
+    if is_live(row.phase) {
+        judge_live(SoundRow { row }, index, length, ending)
     } else {
         Verdict::Stays
     }

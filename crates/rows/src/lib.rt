@@ -4,7 +4,7 @@
 
 ghost use Rattle.std.specs.Prelude.{◌≡◌, true, length};
 ghost use Rattle.wire.specs.Layout.{fitting, message};
-ghost use Rattle.window.specs.Window.{standing_of};
+ghost use Rattle.window.specs.Window.{is_window, standing_of};
 ghost use Rattle.rows.specs.State as Spec;
 ghost use Rattle.rows.specs.Message as Message;
 ghost use Rattle.rows.specs.Message.{freed_from};
@@ -12,7 +12,7 @@ ghost use Rattle.rows.specs.Visit as Visits;
 
 use pieces::Order;
 use row::{Phase, Row};
-use window::{Standing, Window};
+use window::Standing;
 use wire::{Kind, Version};
 
 // What is chosen at start and stays. The window is a number, since `is_sound` refuses a state with another than 4, 8 and 16.
@@ -31,6 +31,15 @@ pub struct State {
     pub greatest: u32,
     pub rows: [Row; 16],
     pub settings: Settings,
+}
+
+// What a visit goes by: the window's size, and the greatest number, which has a meaning where there is one yet.
+#[derive(Clone, Copy)]
+struct Window {
+    size: u32,
+    present: bool,
+    greatest: u32,
+    ghost sized: { is_window size ≡ true },
 }
 
 // What a message does: nothing, where it is passed over or outside the window; or hand out its content; or bring its row a piece, of an
@@ -84,14 +93,15 @@ pub fn is_sound(state: &State) -> bool
 }
 
 // The rows of the numbers that entered, so many after the greatest, become free.
-pub fn freed(rows: [Row; 16], window: Window, entered: u32) -> [Row; 16]
-    ensures { result ≡ freed_from window.size 0 window.greatest entered rows }
+pub fn freed(rows: [Row; 16], window: u32, greatest: u32, entered: u32) -> [Row; 16]
+    requires { is_window window ≡ true }
+    ensures { result ≡ freed_from window 0 greatest entered rows }
 {
     let free = row::empty_row(Phase::Free);
-    let first = window.greatest % window.size + 1;
+    let first = greatest % window + 1;
     let mut next = rows;
-    for j in 0..entered.min(window.size) {
-        let slot = window.row_of(first + j);
+    for j in 0..entered.min(window) {
+        let slot = window::row_of(window, first + j);
         next[slot] = free;
     }
     next
@@ -114,9 +124,9 @@ fn stay(window: Window, act: Act) -> Visit
 fn transfer_visit(window: Window, act: Act, number: u32) -> Visit
     ensures { result ≡ Visits.transfer_visit window.size (standing_of window.size window.present window.greatest number) window.present window.greatest act number }
 {
-    let slot = window.row_of(number);
+    let slot = window::row_of(window.size, number);
     let origin = Some(number);
-    match window.standing_of(number) {
+    match window::standing_of(window.size, window.present, window.greatest, number) {
         Standing::Inside => Visit {
             slot,
             origin,
@@ -135,10 +145,15 @@ fn transfer_visit(window: Window, act: Act, number: u32) -> Visit
 }
 
 // Where a message goes.
-pub fn visit_of(window: Window, kind: Kind, content: &[u8]) -> Visit
-    requires { fitting kind (length content.now) ≡ true }
-    ensures { result ≡ Visits.visit_of window.size window.present window.greatest (message kind content.now) }
+pub fn visit_of(window: u32, present: bool, greatest: u32, kind: Kind, content: &[u8]) -> Visit
+    requires { (is_window window ≡ true) × (fitting kind (length content.now) ≡ true) }
+    ensures { result ≡ Visits.visit_of window present greatest (message kind content.now) }
 {
+    let window = Window {
+        size: window,
+        present,
+        greatest,
+    };
     match kind {
         Kind::Skipped => stay(window, Act::Pass),
         Kind::Bundle => stay(window, Act::HandOut),

@@ -12,15 +12,6 @@ pub enum Standing {
     Outside,
 }
 
-// The window of a receiver: its size, and the greatest number, which has a meaning where there is one yet.
-#[derive(Clone, Copy)]
-pub struct Window {
-    pub size: u32,
-    pub present: bool,
-    pub greatest: u32,
-    ghost sized: { Spec.is_window size ≡ true },
-}
-
 // A plain start's window.
 pub const PLAIN: u32 = 8;
 
@@ -53,24 +44,25 @@ fn standing_at(window: u32, d: u32) -> Standing
     Standing::Inside
 }
 
-impl Window {
-    pub fn standing_of(self, number: u32) -> Standing
-        ensures { result ≡ Spec.standing_of self.size self.present self.greatest number }
-    {
-        if self.present {
-            return standing_at(self.size, distance(self.greatest, number));
-        }
-        Standing::New(self.size)
+// Where a number stands. The window is a number with a clause, here and in `row_of`, and no type that carries it: callers have a number.
+pub fn standing_of(window: u32, present: bool, greatest: u32, number: u32) -> Standing
+    requires { Spec.is_window window ≡ true }
+    ensures { result ≡ Spec.standing_of window present greatest number }
+{
+    if present {
+        return standing_at(window, distance(greatest, number));
     }
+    Standing::New(window)
+}
 
-    // The row that a number owns. By cases, since a remainder by a variable would be a division.
-    pub fn row_of(self, number: u32) -> usize
-        ensures { result ≡ Spec.row_of self.size number }
-    {
-        match self.size {
-            16 => (number % 16) as usize,
-            8 => (number % 8) as usize,
-            _ => (number % 4) as usize,
-        }
+// The row that a number owns. By cases, since a remainder by a variable would be a division.
+pub fn row_of(window: u32, number: u32) -> usize
+    requires { Spec.is_window window ≡ true }
+    ensures { result ≡ Spec.row_of window number }
+{
+    match window {
+        16 => (number % 16) as usize,
+        8 => (number % 8) as usize,
+        _ => (number % 4) as usize,
     }
 }

@@ -146,11 +146,11 @@ slice_bounds-content-start c = let l = place (turn (goal.at.slice_bounds-content
 pub slice_bounds-content-end : goal.slice_bounds-content-end
 slice_bounds-content-end c = let l = place (turn (goal.at.slice_bounds-content-end c).In-Ok) in omega (arith, l.ordered, l.within)
 
-pub invariant_of-window : goal.invariant_of-window
-invariant_of-window c = record { sized = is_window_lem _ (win (turn (goal.at.invariant_of-window c).In-Ok)) }
-
 pub visit_of-v-requires : goal.visit_of-v-requires
-visit_of-v-requires c = fits (turn (goal.at.visit_of-v-requires c).In-Ok)
+visit_of-v-requires c = let t = turn (goal.at.visit_of-v-requires c).In-Ok in (is_window_lem _ (win t), fits t)
+
+pub freed-state-requires : goal.freed-state-requires
+freed-state-requires c = is_window_lem _ (win (turn (goal.at.freed-state-requires c).In-Ok))
 
 pub offset_bounds-state-slot : goal.offset_bounds-state-slot
 offset_bounds-state-slot c = omega (arith, slot-below (turn (goal.at.offset_bounds-state-slot c).In-Ok) _ c.visit_of-v.ensures)

@@ -13,14 +13,14 @@ use Rattle.rows.proofs.freed.Goals as goal
 
 -- what the window is known to be
 module _ (c : Start) where
-  win : Window c.args.window.size
-  win = window_of_lem c.args.window.size c.args.window.sized
+  win : Window c.args.window
+  win = window_of_lem c.args.window c.requires
 
-  range : (4 ≤ c.args.window.size) × (c.args.window.size ≤ 16)
-  range = window_range c.args.window.size win
+  range : (4 ≤ c.args.window) × (c.args.window ≤ 16)
+  range = window_range c.args.window win
 
-  below : (n : ℕ) → n % c.args.window.size < c.args.window.size
-  below n = row_below c.args.window.size win n
+  below : (n : ℕ) → n % c.args.window < c.args.window
+  below n = row_below c.args.window win n
 
   full : length c.args.rows ≡ 16
   full = search rules
@@ -29,14 +29,14 @@ pub loop-j-init : goal.loop-j-init
 loop-j-init c =
     let a = c.args in
     let g = (goal.at.loop-j-init c).Start in
-    (omega (arith, c.min-j-end.ensures), sym (freed-none a.window.size (win g) a.window.greatest a.rows (omega (arith, range g, full g))), full g)
+    (omega (arith, c.min-j-end.ensures), sym (freed-none a.window (win g) a.greatest a.rows (omega (arith, range g, full g))), full g)
 
 pub loop-j-preserved : goal.loop-j-preserved
 loop-j-preserved c =
     let l = c.loop-j in
     let a = c.args in
     let g = (goal.at.loop-j-preserved c).Start in
-    (l.invariant.0, rw (c.row_of-slot.ensures, c.empty_row-free.ensures, l.invariant.1) (freed-turn a.window.size (win g) a.window.greatest a.rows (omega (arith, range g, full g)) l.j (omega (arith, l.invariant.0))), simp length-set l.invariant.2)
+    (l.invariant.0, rw (c.row_of-slot.ensures, c.empty_row-free.ensures, l.invariant.1) (freed-turn a.window (win g) a.greatest a.rows (omega (arith, range g, full g)) l.j (omega (arith, l.invariant.0))), simp length-set l.invariant.2)
 
 pub returns : goal.returns
 returns c =
@@ -44,4 +44,4 @@ returns c =
     let a = c.args in
     let g = (goal.at.returns c).Start in
     let n : l.j ≡ c.min-j-end.result = omega arith in
-    l.invariant.1 ∙ ap (λ (n : ℕ). freed_from a.window.size 0 a.window.greatest n a.rows) (n ∙ c.min-j-end.ensures) ∙ freed-least a.window.size (win g) a.window.greatest a.rows (omega (arith, range g, full g)) a.entered
+    l.invariant.1 ∙ ap (λ (n : ℕ). freed_from a.window 0 a.greatest n a.rows) (n ∙ c.min-j-end.ensures) ∙ freed-least a.window (win g) a.greatest a.rows (omega (arith, range g, full g)) a.entered

@@ -6,4 +6,4 @@ use Rattle.rows.specs.Message.{freed_from}
 use Rattle.rows.proofs.freed.Given as goal
 
 abbrev pub invariant-loop-j : goal.invariant-loop-j
-invariant-loop-j l = (l.j-end ≤ l.window.size) × (l.next ≡ freed_from l.window.size 0 l.window.greatest l.j l.initial.next) × (length l.next ≡ 16)
+invariant-loop-j l = (l.j-end ≤ l.window) × (l.next ≡ freed_from l.window 0 l.greatest l.j l.initial.next) × (length l.next ≡ 16)

@@ -7,13 +7,13 @@ use Rattle.rows.proofs.Fits.{segment-long, end-long, cancel-long}
 use Rattle.rows.proofs.visit_of.Goals as goal
 
 pub number_at-requires : goal.number_at-requires
-number_at-requires c = omega (arith, segment-long c.args.kind (length c.args.content.now) c.requires c.in-Segment.is)
+number_at-requires c = omega (arith, segment-long c.args.kind (length c.args.content.now) c.requires.1 c.in-Segment.is)
 
 pub number_at-requires-in-End : goal.number_at-requires-in-End
-number_at-requires-in-End c = omega (arith, end-long c.args.kind (length c.args.content.now) c.requires c.in-End.is)
+number_at-requires-in-End c = omega (arith, end-long c.args.kind (length c.args.content.now) c.requires.1 c.in-End.is)
 
 pub number_at-requires-in-Cancel : goal.number_at-requires-in-Cancel
-number_at-requires-in-Cancel c = omega (arith, cancel-long c.args.kind (length c.args.content.now) c.requires c.in-Cancel.is)
+number_at-requires-in-Cancel c = omega (arith, cancel-long c.args.kind (length c.args.content.now) c.requires.1 c.in-Cancel.is)
 
 pub returns-in-Skipped : goal.returns-in-Skipped
 unfolding visit_of message
