@@ -63,7 +63,7 @@ export function judge(name, found) {
   const [receiving, playing, bursts] = found.stack;
   assert.ok(found.longest.every((calls) => calls > 0), `calls with the longest chain of hints: ${found.longest}`);
   // What a call takes of the stack is the same for all frames that are taken: less shows that it was not measured.
-  assert.ok(receiving > 20000 && playing > 90000 && bursts > 30000, `stack used: ${found.stack}`);
+  assert.ok(receiving > 15000 && playing > 75000 && bursts > 15000, `stack used: ${found.stack}`);
   assert.ok(Math.max(...found.stack) <= (2 * STACK) / 3, `stack used: ${found.stack}`);
   const refused = Object.values(found.refusals).flatMap((of) => Object.values(of)).reduce((sum, n) => sum + n, 0);
   return `${name}: seed ${seed}, ${found.frames} frames, ${found.calls} calls, ${found.bundles} bundles, ${refused} refusals of `
