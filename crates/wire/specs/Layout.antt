@@ -65,6 +65,11 @@ unfoldable pub left : Chain → Option ℕ
 left overrun = None
 left (behind xs) = Some (length xs)
 
+-- as the hint walk answers it
+unfoldable pub walked : Chain → ℕ
+walked overrun = 0
+walked (behind xs) = 1 + length xs
+
 -- Whether a content has a length that its kind may have.
 unfoldable pub fitting : Kind → ℕ → Bool
 fitting Skipped n = true

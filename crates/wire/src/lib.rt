@@ -3,7 +3,7 @@
 
 ghost use Rattle.std.specs.Prelude.{◌≡◌, ◌+◌, ◌≤◌, ◌<◌, length, drop};
 ghost use Rattle.wire.specs.Message.{answer, fault_number};
-ghost use Rattle.wire.specs.Layout.{zeros, kind_of, length_field, chain, hints, left, fitting, bodied, read};
+ghost use Rattle.wire.specs.Layout.{zeros, kind_of, length_field, chain, hints, left, walked, fitting, bodied, read};
 ghost use Rattle.wire.specs.Layout as Layout;
 ghost use Rattle.wire.specs.Frame.{checked, reading_checked};
 
@@ -113,31 +113,36 @@ fn length_field(version: Version, frame: &[u8], at: usize) -> usize
     }
 }
 
-// How many octets the hint chain at the start of s leaves of it, if the chain stays within it. The walk calls itself on what one hint leaves:
-// document 01 names that form.
-fn walk_hints(s: &[u8]) -> Option<usize>
-    ensures { result ≡ left (chain (length s.now) s.now) }
+// Walks the hint chain at the start of s: one more than the octets that it leaves, or 0 where it runs past the end. The walk calls itself on
+// what one hint leaves: document 01 names that form. (A number comes back in a register, and the compiler makes a loop of the calls. Of an
+// Option or a Result it makes none, and each hint takes 16 octets of the stack.)
+fn walk_hints(s: &[u8]) -> usize
+    ensures { result ≡ walked (chain (length s.now) s.now) }
 {
     if s.len() < 2 {
-        return None;
+        return 0;
     }
     let value = s[1] as usize;
     if s.len() - 2 < value {
-        return None;
+        return 0;
     }
     if s[0] % 2 == 0 {
-        return Some(s.len() - 2 - value);
+        return s.len() - 2 - value + 1;
     }
     let from = 2 + value;
     walk_hints(&s[from..])
 }
 
-// How many octets the hints leave of a message.
+// How many octets the hints leave of a message, if their chain stays within it.
 #[tactic(auto, unfolding(crate::specs::Layout::hints, crate::specs::Layout::left))]
 fn after_hints(s: &[u8], hinted: bool) -> Option<usize>
     ensures { result ≡ left (hints hinted s.now) }
 {
-    if hinted { walk_hints(s) } else { Some(s.len()) }
+    if hinted {
+        walk_hints(s).checked_sub(1)
+    } else {
+        Some(s.len())
+    }
 }
 
 // Whether a content of a length fits its kind.
