@@ -82,12 +82,21 @@ fn zeros(s: &[u8]) -> usize
 fn kind_of(version: Version, code: u8) -> Kind
     ensures { result ≡ kind_of version code }
 {
-    match (version, code) {
-        (_, 2) => Kind::Bundle,
-        (Version::Draft00, 3) | (Version::Draft02, 4) => Kind::End,
-        (Version::Draft00, 4) | (Version::Draft02, 3) => Kind::Segment,
-        (_, 5) => Kind::Cancel,
-        _ => Kind::Skipped,
+    match version {
+        Version::Draft00 => match code {
+            2 => Kind::Bundle,
+            3 => Kind::End,
+            4 => Kind::Segment,
+            5 => Kind::Cancel,
+            _ => Kind::Skipped,
+        },
+        Version::Draft02 => match code {
+            2 => Kind::Bundle,
+            3 => Kind::Segment,
+            4 => Kind::End,
+            5 => Kind::Cancel,
+            _ => Kind::Skipped,
+        },
     }
 }
 
