@@ -47,13 +47,15 @@ pub struct Opened {
     pub octets: usize,
 }
 
-// Whether every length is 1 to 2,048.
+// Whether every length is 1 to 2,048. Without an early exit: the compiler makes a vector loop of it.
 fn all_sized(lengths: &[u16]) -> bool
     ensures { result ≡ Spec.sized lengths.now }
 {
-    lengths
-        .iter()
-        .all(|length| 1 <= *length && *length as usize <= FRAME_MAX)
+    let mut good = true;
+    for length in lengths {
+        good &= (1 <= *length) & (*length as usize <= FRAME_MAX);
+    }
+    good
 }
 
 // Refusals 18 and 19.

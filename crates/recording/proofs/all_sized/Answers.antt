@@ -1,13 +1,14 @@
--- `recording::all_sized` meets its contract.
-use Rattle.std.proofs.Common.{sym, ◌∙◌, ◌&&◌, rules, tests}
-use Rattle.std.specs.Prelude.{nat_le}
-use Rattle.std.proofs.lemmas.Iterator.{YieldsList-from_slice}
-use Rattle.std.proofs.lemmas.Iterator.Search.{all_from_yields_List}
-use Rattle.wire.specs.Frame.{frame_max}
-use Rattle.recording.proofs.Lengths.{sized-is}
+use mathlib.Core.Path.{refl}
+use native.Mathlib.Omega.{arith}
+use Rattle.recording.specs.Recording.{sized}
+use Rattle.recording.proofs.Lengths.{sized-next}
 use Rattle.recording.proofs.all_sized.Goals as goal
 
-pub returns : goal.returns
-returns c =
-    all_from_yields_List (λ n. nat_le 1 n && nat_le n frame_max) _ _ c.all.result c.all.ensures.ran (YieldsList-from_slice c.args.lengths.now cc) (λ x b q k. search (rules, tests))
-    ∙ sym (sized-is c.args.lengths.now)
+pub loop-length-init : goal.loop-length-init
+unfolding sized
+loop-length-init c = refl
+
+pub loop-length-preserved : goal.loop-length-preserved
+loop-length-preserved c =
+    let l = c.loop-length in
+    rw l.invariant (sized-next c.args.lengths.now l.length-index (omega arith))
