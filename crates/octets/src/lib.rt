@@ -43,6 +43,25 @@ pub fn copy_into(to: &mut [u8], at: usize, src: &[u8])
     to[at..end].copy_from_slice(src);
 }
 
+// The longest copy that is made at once, and the parts of a longer one: what is copied at once has to lie in the nearest cache
+// (docs/SPEED.md).
+const AT_ONCE: usize = 32768;
+
+const PART: usize = 4096;
+
+// All of src, which may be long, from `at` on.
+pub fn copy_long(to: &mut [u8], at: usize, src: &[u8])
+    requires { at + length src.now ≤ length to.old }
+    ensures { to.new ≡ put to.old at src.now }
+{
+    let size = if src.len() <= AT_ONCE { AT_ONCE } else { PART };
+    let mut end = at;
+    for part in src.chunks(size) {
+        copy_into(to, end, part);
+        end += part.len();
+    }
+}
+
 // N octets, from `at` on. An array goes by value, and the compiler makes one store of it.
 pub fn put_array<const N: usize>(to: &mut [u8], at: usize, octets: [u8; N])
     requires { at + N ≤ length to.old }

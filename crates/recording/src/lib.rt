@@ -159,6 +159,6 @@ pub fn write(lengths: &[u16], joined: &[u8], output: &mut [u8]) -> Result<usize,
     octets::put_number(output, 0, n as u32);
     octets::put_pairs(output, 4, lengths);
     octets::put_number(output, start - 4, m as u32);
-    octets::copy_into(output, start, joined);
+    octets::copy_long(output, start, joined);
     Ok(total)
 }

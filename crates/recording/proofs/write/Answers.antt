@@ -53,4 +53,4 @@ returns c =
     let start : c.octets_start-start.result ≡ 8 + n * 2 = c.octets_start-start.ensures in
     let count : c.octets_start-start.result - 4 ≡ 4 + n * 2 = omega arith in
     let h = rw start at c.if-output-total.false in
-    rw (start, fits at, length-written (r at), le-ltb _ _ h, put_written _ _ _ _ _ (r at) h c.put_number.ensures c.put_pairs.ensures (rw count at c.put_number-2.ensures) (rw start at c.copy_into.ensures)) refl
+    rw (start, fits at, length-written (r at), le-ltb _ _ h, put_written _ _ _ _ _ (r at) h c.put_number.ensures c.put_pairs.ensures (rw count at c.put_number-2.ensures) (rw start at c.copy_long.ensures)) refl
