@@ -8,13 +8,13 @@ use framing::State;
 
 pub const IMAGE_SIZE: usize = 24;
 
-fn is_image(image: &[u8; IMAGE_SIZE]) -> bool
+pub fn is_image(image: &[u8; IMAGE_SIZE]) -> bool
     ensures { result ≡ Spec.is_image image.now }
 {
     image[8] <= 1 && image[9] <= 1 && image[10] == 0 && image[11] == 0
 }
 
-fn state_of(image: &[u8; IMAGE_SIZE]) -> State
+pub fn state_of(image: &[u8; IMAGE_SIZE]) -> State
     ensures { result ≡ Spec.state_of image.now }
 {
     State {

@@ -164,7 +164,7 @@ module _ (w : ℕ) (win : Window w) where
         pool = l;
       }
 
--- the state of a refused start is not sound
+-- a state with another window, which no start gives, is not sound
 pub refused_unsound : (v : Version) (w : ℕ) → is_window w ≡ false → State.sound (fresh v w) ≡ false
 unfolding fresh State.sound
 refused_unsound v w e = rw e
