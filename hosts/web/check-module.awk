@@ -74,6 +74,11 @@ function names(r, n) {
 # The memory that the pointer at octet o of n reaches, and that which the pointer of a returned pair reaches.
 function reached(n, o) { return n "->" o }
 function reached_by(f) { return f SUBSEP "its result" }
+# What the line makes goes nowhere but where the lines behind it say: it isn't used in the text before, either.
+function keep(what) {
+    if (node(result) in mentioned) fail(what " is used before its definition: " line)
+    kept_in[node(result)] = what
+}
 # Octets o on of n are octets o2 on of n2, or a copy of them of l octets (-1: the same memory, to its end).
 function link(n, o, n2, o2, l,    k) {
     k = n SUBSEP o SUBSEP n2 SUBSEP o2 SUBSEP l
@@ -156,20 +161,20 @@ BEGIN {
     op = line; sub(/ .*/, "", op)
 
     # A null that an exported function is lent: four instructions, one behind another, of which only the last one's result is used.
-    if (null_step == 1 && line == "zext i1 " null_of[1] " to i64" || null_step == 2 && line == "mul i64 " null_of[2] ", 4096") { null_of[++null_step] = result; kept_in[node(result)] = "whether a pointer is null"; next }
+    if (null_step == 1 && line == "zext i1 " null_of[1] " to i64" || null_step == 2 && line == "mul i64 " null_of[2] ", 4096") { null_of[++null_step] = result; keep("whether a pointer is null"); next }
     if (null_step == 3 && line == "getelementptr i8, ptr " null_of[0] ", i64 " null_of[3]) { null_step = 0; up[node(result)] = base_of(null_of[0]); off[node(result)] = 0; next }
     if (null_step) { fail("a pointer in icmp, and not to take another for null"); null_step = 0 }
     if (at_entry && line ~ /^icmp eq ptr %[A-Za-z0-9_.]+, null$/) {
         r = line; sub(/,.*/, "", r); sub(/.* /, "", r)
-        if (node(r) in lent) { null_step = 1; null_of[0] = r; null_of[1] = result; kept_in[node(result)] = "whether a pointer is null"; next }
+        if (node(r) in lent) { null_step = 1; null_of[0] = r; null_of[1] = result; keep("whether a pointer is null"); next }
     }
 
     # Whether a copy's end lies in what is copied: the distance of two addresses, that goes nowhere but into this test.
     if (near_step < 2 && line ~ /^ptrtoaddr ptr %[A-Za-z0-9_.]+ to i64$/) {
         r = line; sub(/^ptrtoaddr ptr /, "", r); sub(/ .*/, "", r)
-        near_of[++near_step] = r; near_is[near_step] = result; kept_in[node(result)] = "the number of an address"; next
+        near_of[++near_step] = r; near_is[near_step] = result; keep("the number of an address"); next
     }
-    if (near_step == 2 && line == "sub i64 " near_is[1] ", " near_is[2]) { near_is[++near_step] = result; kept_in[node(result)] = "the distance of two addresses"; next }
+    if (near_step == 2 && line == "sub i64 " near_is[1] ", " near_is[2]) { near_is[++near_step] = result; keep("the distance of two addresses"); next }
     if (near_step == 3 && line ~ "^icmp ult i64 " near_is[3] ", %[A-Za-z0-9_.]+$") {
         r = line; sub(/.* /, "", r)
         compared[fn SUBSEP near_of[1] SUBSEP near_of[2] SUBSEP r] = fn ":" NR; near_step = 0; next
@@ -185,6 +190,7 @@ BEGIN {
     while (match(rest, /%[A-Za-z0-9_.$-]+/)) {
         r = node(substr(rest, RSTART, RLENGTH)); rest = substr(rest, RSTART + RLENGTH)
         delete fresh[r]
+        mentioned[r] = 1
         if (r in kept_in) fail(kept_in[r] " is used: " line)
     }
 
